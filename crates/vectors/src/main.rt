@@ -1,0 +1,16 @@
+// Runs document 01's "Numbers to check by" through the library's own functions. Each line says what was asked, what came
+// and what should come; the file `stdout` beside src/ holds what document 01 says.
+mod line;
+mod numbers;
+
+fn main() {
+    numbers::blends();
+    numbers::whole_pixels();
+    numbers::raster();
+    numbers::needs_source();
+    numbers::widths();
+    numbers::row_lengths();
+    numbers::source_places();
+    numbers::mask_places();
+    numbers::channel_masks();
+}

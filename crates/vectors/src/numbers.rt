@@ -1,0 +1,168 @@
+// The numbers of the crate `pixel`.
+use crate::line;
+use pixel::blend;
+use pixel::masks;
+use pixel::place;
+
+pub fn blends() {
+    line::number(
+        b"format 0: s 200, d 100, c 128",
+        blend::channel0(200, 100, 128) as u64,
+        150,
+    );
+    line::number(
+        b"format 1: s 100, a 128, c 255, d 200",
+        blend::channel1(100, 128, 200, 255) as u64,
+        200,
+    );
+    line::number(
+        b"format 1: s 100, a 128, c 128, d 200",
+        blend::channel1(100, 128, 200, 128) as u64,
+        200,
+    );
+    line::number(
+        b"format 1: s 1, a 1, c 128, d 1",
+        blend::channel1(1, 1, 1, 128) as u64,
+        1,
+    );
+    line::number(
+        b"format 1: s 255, a 0, c 255, d 255",
+        blend::channel1(255, 0, 255, 255) as u64,
+        255,
+    );
+}
+
+pub fn whole_pixels() {
+    line::pixel(
+        b"format 0: pixel 0xFFC8C8C8 over 0xFF646464, c 128",
+        blend::pixel0(0xFFC8C8C8, 0xFF646464, 128),
+        0xFF969696,
+    );
+    line::pixel(
+        b"format 1: pixel 0x80646464 over 0xC8C8C8C8, c 255",
+        blend::pixel1(0x80646464, 0xC8C8C8C8, 255),
+        0xE4C8C8C8,
+    );
+}
+
+pub fn raster() {
+    line::pixel(
+        b"raster 0x66: source 0xFF00FF, target 0x0F0F0F",
+        pixel::raster::raster(0x66, 0, 0xFF00FF, 0x0F0F0F),
+        0xF00FF0,
+    );
+    line::pixel(
+        b"raster 0x66: source 0x12FF00FF, target pixel 0x340F0F0F",
+        pixel::raster::pixel(0x66, 0, 0x12FF00FF, 0x340F0F0F),
+        0x34F00FF0,
+    );
+    line::pixel(
+        b"raster 0xF0: brush 0x112233, target pixel 0xFF0000FF",
+        pixel::raster::pixel(0xF0, 0x112233, 0, 0xFF0000FF),
+        0xFF112233,
+    );
+}
+
+pub fn needs_source() {
+    line::truth(
+        b"raster 0xCC needs a source",
+        pixel::raster::needs_source(0xCC),
+        true,
+    );
+    line::truth(
+        b"raster 0x66 needs a source",
+        pixel::raster::needs_source(0x66),
+        true,
+    );
+    line::truth(
+        b"raster 0xF0 needs a source",
+        pixel::raster::needs_source(0xF0),
+        false,
+    );
+    line::truth(
+        b"raster 0xAA needs a source",
+        pixel::raster::needs_source(0xAA),
+        false,
+    );
+}
+
+pub fn widths() {
+    let t = pixel::widen::table();
+    line::number(b"5 bits, 16", pixel::widen::widen(&t, 5, 16) as u64, 132);
+    line::number(b"6 bits, 32", pixel::widen::widen(&t, 6, 32) as u64, 130);
+}
+
+pub fn row_lengths() {
+    line::number(
+        b"row length of 1 pixel of 24 bits",
+        place::row_length(1, 24),
+        4,
+    );
+    line::number(
+        b"row length of 33 pixels of 1 bit",
+        place::row_length(33, 1),
+        8,
+    );
+}
+
+pub fn source_places() {
+    line::number(
+        b"n 2, m 3, i 0 reads",
+        place::source_place(false, 0, 2, 3) as u64,
+        0,
+    );
+    line::number(
+        b"n 2, m 3, i 1 reads",
+        place::source_place(false, 1, 2, 3) as u64,
+        0,
+    );
+    line::number(
+        b"n 2, m 3, i 2 reads",
+        place::source_place(false, 2, 2, 3) as u64,
+        1,
+    );
+    line::number(
+        b"n 2, m 3, i 0, mirrored, reads",
+        place::source_place(true, 0, 2, 3) as u64,
+        1,
+    );
+    line::number(
+        b"n 2, m 3, i 1, mirrored, reads",
+        place::source_place(true, 1, 2, 3) as u64,
+        1,
+    );
+    line::number(
+        b"n 2, m 3, i 2, mirrored, reads",
+        place::source_place(true, 2, 2, 3) as u64,
+        0,
+    );
+}
+
+pub fn mask_places() {
+    line::number(
+        b"mask width 8, xMask -3, i 0 reads column",
+        place::mask_pixel(-3, 0, 8) as u64,
+        5,
+    );
+}
+
+// The masks of a 5-6-5 pixel, and one with a gap.
+pub fn channel_masks() {
+    line::number(b"mask 0xF800: width", masks::width(0xF800) as u64, 5);
+    line::number(b"mask 0xF800: place", masks::place(0xF800) as u64, 11);
+    line::truth(
+        b"mask 0xF800 is contiguous",
+        masks::is_contiguous(0xF800),
+        true,
+    );
+    line::truth(
+        b"mask 0xF01F is contiguous",
+        masks::is_contiguous(0xF01F),
+        false,
+    );
+    line::number(
+        b"channel of 6 bits at place 5 of 0xABCD",
+        masks::channel(6, 5, 0xABCD) as u64,
+        30,
+    );
+}
