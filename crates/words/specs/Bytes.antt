@@ -4,8 +4,9 @@ use Prim.Native.Nat.{ℕ, zero, suc, _+_, _-_, _*_, _/_, _%_, _^_}
 use mathlib.Core.Bool.{Bool, true, false}
 use mathlib.Core.List.{List, [], _∷_}
 use lib.ListN.{getD}
-use lib.Dec.{ltb}
+use lib.Dec.{leb, ltb}
 use lib.IntN.{ℤ, pos, negsuc}
+use Rattle.words.specs.Choice.{pickN}
 
 -- the byte at a place; 0 past the end
 abbrev pub byteAt : List ℕ → ℕ → ℕ
@@ -36,3 +37,10 @@ pickZ false a b = b
 -- a number below 2^32 as two's complement: x below 2^31, and else x - 2^32, which is -1 - (2^32 - 1 - x)
 unfoldable pub signed32 : ℕ → ℤ
 signed32 x = pickZ (ltb x 2147483648) (pos x) (negsuc (4294967295 - x))
+
+-- the same number's sign, and the number without its sign (of -2^31 that is 2^31)
+abbrev pub negative32 : ℕ → Bool
+negative32 x = leb 2147483648 x
+
+unfoldable pub magnitude32 : ℕ → ℕ
+magnitude32 x = pickN (ltb x 2147483648) x (4294967296 - x)

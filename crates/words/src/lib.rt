@@ -6,7 +6,8 @@ ghost use mathlib.Core.Path.{_≡_};
 ghost use Prim.Native.Nat.{_+_, _≤_, _<_};
 ghost use lib.ListN.{length};
 ghost use lib.Seq.{sets};
-ghost use Rattle.words.specs.Bytes.{byteAt, le16, le24, le32, bytes32, signed32};
+ghost use Rattle.words.specs.Bytes.{byteAt, le16, le24, le32, bytes32, signed32, magnitude32};
+ghost use Rattle.words.specs.Choice.{lowest as lowestOf};
 
 // A byte as a number to compute with.
 pub fn wide(x: u8) -> u32
@@ -57,6 +58,30 @@ pub fn signed(x: u32) -> i32
     } else {
         -1 - ((4294967295 - x) as i32)
     }
+}
+
+// A two's complement number without its sign.
+pub fn magnitude(x: u32) -> u32
+    ensures { λ r. ⌜ r ≡ magnitude32 x ⌝ }
+{
+    if x < 2147483648 {
+        x
+    } else {
+        4294967295 - x + 1
+    }
+}
+
+// The lower of two statuses, where 0 is none.
+pub fn lowest(a: u32, b: u32) -> u32
+    ensures { λ r. ⌜ r ≡ lowestOf a b ⌝ }
+{
+    if a == 0 {
+        return b;
+    }
+    if b == 0 {
+        return a;
+    }
+    if a < b { a } else { b }
 }
 
 // ---- places in the slice

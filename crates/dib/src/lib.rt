@@ -1,0 +1,156 @@
+// A DIB's header: read to its numbers, and judged (statuses 8, 9 and 10).
+ghost use mathlib.Core.Path.{_≡_};
+ghost use mathlib.Core.Bool.{false};
+ghost use Prim.Native.Nat.{_^_, _≤_, min};
+ghost use lib.ListN.{length};
+ghost use Rattle.dib.specs.Header.{headerOf, tableStart, entries};
+ghost use Rattle.dib.specs.Judged.{badFields, badHeader, badMasks, bitsNeeded, dibStatus};
+
+mod field;
+mod judge;
+
+// The header's numbers as written: width and height in two's complement. A mask is 0 where the header has none.
+pub struct Header {
+    pub size: u32,
+    pub width: u32,
+    pub height: u32,
+    pub planes: u32,
+    pub bits: u32,
+    pub compression: u32,
+    pub colours: u32,
+    pub red: u32,
+    pub green: u32,
+    pub blue: u32,
+    pub alpha: u32,
+}
+
+// The numbers of any header part; a byte past its end reads as 0.
+pub fn read(h: &[u8]) -> Header
+    ensures { λ r. ⌜ r ≡ headerOf (now (h .entry)) ⌝ }
+{
+    let size = words::read_u32(h, 0);
+    let width = words::read_u32(h, 4);
+    let height = words::read_u32(h, 8);
+    let planes = words::read_u16(h, 12);
+    let bits = words::read_u16(h, 14);
+    let compression = words::read_u32(h, 16);
+    let colours = words::read_u32(h, 32);
+    let red = field::mask(h, compression, 40);
+    let green = field::mask(h, compression, 44);
+    let blue = field::mask(h, compression, 48);
+    let alpha = field::alpha(h, compression, size);
+    Header {
+        size,
+        width,
+        height,
+        planes,
+        bits,
+        compression,
+        colours,
+        red,
+        green,
+        blue,
+        alpha,
+    }
+}
+
+// Where the colour table begins in the header part.
+pub fn table_start(h: Header) -> usize
+    requires { ⌜ badFields h ≡ false ⌝ }
+    ensures { λ r. ⌜ r ≡ tableStart h ⌝ }
+{
+    if h.compression == 3 {
+        if h.size == 40 {
+            return 52;
+        }
+    }
+    h.size as usize
+}
+
+// How many entries the colour table has.
+pub fn table_entries(h: Header) -> usize
+    requires { ⌜ badFields h ≡ false ⌝ }
+    ensures { λ r. ⌜ (r ≡ entries h) × (r ≤ 256) ⌝ }
+{
+    if h.colours == 0 {
+        if h.bits <= 8 {
+            return judge::most_colours(h.bits) as usize;
+        }
+        return 0;
+    }
+    h.colours as usize
+}
+
+// Status 8, all but the length of the header part.
+fn bad_fields(h: Header) -> bool
+    ensures { λ r. ⌜ r ≡ badFields h ⌝ }
+{
+    if judge::bad_size(h.size) {
+        return true;
+    }
+    if h.planes != 1 {
+        return true;
+    }
+    if !judge::is_depth(h.bits) {
+        return true;
+    }
+    if judge::bad_compression(h.compression, h.bits) {
+        return true;
+    }
+    if judge::bad_extent(h.width) {
+        return true;
+    }
+    if judge::bad_extent(words::magnitude(h.height)) {
+        return true;
+    }
+    judge::bad_colours(h.colours, h.bits)
+}
+
+// Status 8.
+fn bad_header(len: usize, h: Header) -> bool
+    ensures { λ r. ⌜ r ≡ badHeader len h ⌝ }
+{
+    if bad_fields(h) {
+        return true;
+    }
+    len < table_start(h) + 4 * table_entries(h)
+}
+
+// Status 9.
+fn bad_masks(h: Header) -> bool
+    requires { ⌜ badFields h ≡ false ⌝ }
+    ensures { λ r. ⌜ r ≡ badMasks h ⌝ }
+{
+    if h.compression == 3 {
+        if judge::bad_channels(h.bits, h.red, h.green, h.blue, h.alpha) {
+            return true;
+        }
+        return judge::bad_overlaps(h.red, h.green, h.blue, h.alpha);
+    }
+    false
+}
+
+// The bytes that the rows take.
+pub fn bits_needed(h: Header) -> u64
+    requires { ⌜ badFields h ≡ false ⌝ }
+    ensures { λ r. ⌜ r ≡ bitsNeeded h ⌝ }
+{
+    pixel::place::row_length(h.width, h.bits) * words::magnitude(h.height) as u64
+}
+
+// The first of 8, 9 and 10 that applies to a header part and a bits part of `bits` bytes, or 0.
+pub fn status(header: &[u8], bits: u32) -> u32
+    ensures { λ r. ⌜ r ≡ dibStatus (now (header .entry)) bits ⌝ }
+{
+    let h = read(header);
+    if bad_header(header.len(), h) {
+        return 8;
+    }
+    if bad_masks(h) {
+        return 9;
+    }
+    if (bits as u64) < bits_needed(h) {
+        return 10;
+    }
+    0
+}

@@ -1,0 +1,37 @@
+-- Document 01, "Reading a picture": the colour and alpha of a stored number. Definitions only.
+use Prim.Native.Nat.{ℕ, _+_, _*_, _^_}
+use mathlib.Core.Bool.{Bool, _&&_}
+use mathlib.Core.List.{List}
+use lib.ListN.{getD}
+use lib.Dec.{eqb, leb}
+use Rattle.words.specs.Choice.{pickN}
+use Rattle.pixel.specs.Blend.{pixelOf}
+use Rattle.pixel.specs.Masks.{maskWidth, maskPlace, channelAt}
+use Rattle.pixel.specs.Widen.{widened}
+use Rattle.sample.specs.declared.Masks.{Masks}
+
+-- the channel that a mask picks from n, widened to 8 bits
+unfoldable pub channel8 : (mask n : ℕ) → ℕ
+channel8 mask n = widened (maskWidth mask) (channelAt (maskWidth mask) (maskPlace mask) n)
+
+-- "BI_RGB 16: blue, green, red of five bits, from the lowest up. BI_RGB 32: blue, green, red, and a high byte that is alpha only
+-- under alpha format 1." "24 bits: blue, green, red." Under BI_BITFIELDS the header's masks.
+abbrev pub masksOf : (bits compression red green blue alpha : ℕ) (format1 : Bool) → Masks
+masksOf bits compression red green blue alpha format1 = record {
+  red = pickN (eqb compression 3) red (pickN (eqb bits 16) 0x7C00 0xFF0000);
+  green = pickN (eqb compression 3) green (pickN (eqb bits 16) 0x03E0 0xFF00);
+  blue = pickN (eqb compression 3) blue (pickN (eqb bits 16) 0x001F 0xFF);
+  alpha = pickN (eqb compression 3) alpha (pickN (format1 && eqb bits 32) 0xFF000000 0)
+}
+
+-- "Where a layout has no alpha, alpha is 255."
+unfoldable pub alphaOf : (mask n : ℕ) → ℕ
+alphaOf mask n = pickN (eqb mask 0) 255 (channel8 mask n)
+
+-- the pixel that masks make of a stored number
+unfoldable pub masked : Masks → (n : ℕ) → ℕ
+masked m n = pixelOf (alphaOf (m .alpha) n) (channel8 (m .red) n) (channel8 (m .green) n) (channel8 (m .blue) n)
+
+-- the pixel of a stored number: by the palette up to 8 bits, by the masks above
+unfoldable pub shown : (bits : ℕ) (palette : List ℕ) → Masks → (n : ℕ) → ℕ
+shown bits palette m n = pickN (leb bits 8) (255 * 2 ^ 24 + getD palette n 0) (masked m n)

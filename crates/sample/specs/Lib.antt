@@ -1,0 +1,3 @@
+pub mod Palette
+pub mod Stored
+pub mod Colour
