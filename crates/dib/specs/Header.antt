@@ -27,7 +27,7 @@ headerOf h = record {
   red = pickN (hasMasks (le32 h 16)) (le32 h 40) 0;
   green = pickN (hasMasks (le32 h 16)) (le32 h 44) 0;
   blue = pickN (hasMasks (le32 h 16)) (le32 h 48) 0;
-  alpha = pickN (hasMasks (le32 h 16) && eqb (le32 h 0) 108) (le32 h 52) 0
+  alpha = pickN (hasMasks (le32 h 16) && eqb (le32 h 0) 108) (le32 h 52) 0;
 }
 
 -- "Positive height: the last stored row is the top one."

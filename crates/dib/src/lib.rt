@@ -57,12 +57,13 @@ pub fn read(h: &[u8]) -> Header
 // Where the colour table begins in the header part.
 pub fn table_start(h: Header) -> usize
     requires { ⌜ badFields h ≡ false ⌝ }
-    ensures { λ r. ⌜ r ≡ tableStart h ⌝ }
+    ensures { λ r. ⌜ (r ≡ tableStart h) × (r ≤ 108) ⌝ }
 {
     if h.compression == 3 {
         if h.size == 40 {
             return 52;
         }
+        return h.size as usize;
     }
     h.size as usize
 }

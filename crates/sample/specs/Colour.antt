@@ -21,7 +21,7 @@ masksOf bits compression red green blue alpha format1 = record {
   red = pickN (eqb compression 3) red (pickN (eqb bits 16) 0x7C00 0xFF0000);
   green = pickN (eqb compression 3) green (pickN (eqb bits 16) 0x03E0 0xFF00);
   blue = pickN (eqb compression 3) blue (pickN (eqb bits 16) 0x001F 0xFF);
-  alpha = pickN (eqb compression 3) alpha (pickN (format1 && eqb bits 32) 0xFF000000 0)
+  alpha = pickN (eqb compression 3) alpha (pickN (format1 && eqb bits 32) 0xFF000000 0);
 }
 
 -- "Where a layout has no alpha, alpha is 255."

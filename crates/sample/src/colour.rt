@@ -8,21 +8,49 @@ ghost use Rattle.sample.specs.Colour.{channel8 as channel8Of, masksOf, a
 use crate::Masks;
 
 // The masks in force.
-pub fn masks(bits: u32, compression: u32, red: u32, green: u32, blue: u32, alpha: u32, format1: bool) -> Masks
+pub fn masks(
+    bits: u32,
+    compression: u32,
+    red: u32,
+    green: u32,
+    blue: u32,
+    alpha: u32,
+    format1: bool,
+) -> Masks
     ensures { λ r. ⌜ r ≡ masksOf bits compression red green blue alpha format1 ⌝ }
 {
     if compression == 3 {
-        return Masks { red, green, blue, alpha };
+        return Masks {
+            red,
+            green,
+            blue,
+            alpha,
+        };
     }
     if bits == 16 {
-        return Masks { red: 0x7C00, green: 0x03E0, blue: 0x001F, alpha: 0 };
+        return Masks {
+            red: 0x7C00,
+            green: 0x03E0,
+            blue: 0x001F,
+            alpha: 0,
+        };
     }
     if format1 {
         if bits == 32 {
-            return Masks { red: 0xFF0000, green: 0xFF00, blue: 0xFF, alpha: 0xFF000000 };
+            return Masks {
+                red: 0xFF0000,
+                green: 0xFF00,
+                blue: 0xFF,
+                alpha: 0xFF000000,
+            };
         }
     }
-    Masks { red: 0xFF0000, green: 0xFF00, blue: 0xFF, alpha: 0 }
+    Masks {
+        red: 0xFF0000,
+        green: 0xFF00,
+        blue: 0xFF,
+        alpha: 0,
+    }
 }
 
 // The channel of a mask of 1 to 8 ones, widened.

@@ -20,7 +20,11 @@ pub fn half(row: &[u8], column: usize) -> u32
     ensures { λ r. ⌜ (r ≡ stored4 (now (row .entry)) column) × (r < 16) ⌝ }
 {
     let byte = words::wide(row[column / 2]);
-    if column % 2 == 0 { byte / 16 } else { byte % 16 }
+    if column % 2 == 0 {
+        byte / 16
+    } else {
+        byte % 16
+    }
 }
 
 // By the bits of a pixel; the row's bytes reach to the end of the column's pixel.

@@ -37,3 +37,17 @@ or-none true b e = absurd (true≢false e)
 pub and-both : (a b : Bool) → (a && b) ≡ true → (a ≡ true) × (b ≡ true)
 and-both true b e = (refl, e)
 and-both false b e = absurd (true≢false (sym e))
+
+-- tests joined by or, one after the other: the first that holds decides
+pub or-true : (a b : Bool) → a ≡ true → (a || b) ≡ true
+or-true a b e = ap (λ (x : Bool). x || b) e
+
+pub or-false : (a b : Bool) {t : Bool} → a ≡ false → b ≡ t → (a || b) ≡ t
+or-false a b e f = ap (λ (x : Bool). x || b) e ∙ f
+
+-- a choice whose test is known
+pub picked-true : (t : Bool) (a b : ℕ) → t ≡ true → pickN t a b ≡ a
+picked-true t a b e = ap (λ (x : Bool). pickN x a b) e
+
+pub picked-false : (t : Bool) (a b : ℕ) → t ≡ false → pickN t a b ≡ b
+picked-false t a b e = ap (λ (x : Bool). pickN x a b) e

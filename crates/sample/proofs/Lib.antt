@@ -1,0 +1,3 @@
+pub mod ColourLaws
+pub mod StoredLaws
+pub mod PaletteLaws

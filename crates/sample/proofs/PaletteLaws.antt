@@ -1,0 +1,39 @@
+-- The palette as the loop fills it: the table's colours over 256 black ones. Assumes nothing.
+use mathlib.Core.Path.{_≡_, refl, sym, ap, _∙_}
+use mathlib.Core.Bool.{Bool, true, false}
+use mathlib.Core.List.{List}
+use Prim.Native.Nat.{ℕ, _*_, _≤_, _<_}
+use native.Mathlib.Nat.{le-trans}
+use lib.Dec.{ltb}
+use lib.ListN.{getD, replicate, length-replicate, getD-replicate}
+use borrow.Author.Tests.{lt-ltb, ltb-true, ltb-false}
+use Rattle.words.specs.Bytes.{le24}
+use Rattle.words.specs.Choice.{pickN}
+use Rattle.words.specs.Filled.{Filled}
+use Rattle.words.proofs.FillLaws.{filled-all}
+use Rattle.sample.specs.Palette.{entryColour, paletteOf}
+
+abbrev pub black : List ℕ
+black = replicate 256 0
+
+-- the colour that index k shows
+abbrev pub colourAt : (table : List ℕ) (n k : ℕ) → ℕ
+colourAt table n k = pickN (ltb k n) (entryColour table k) 0
+
+module _ (table : List ℕ) (n : ℕ) where
+  by-test : {b : Bool} (k : ℕ) → ltb k n ≡ b → pickN b (entryColour table k) 0 ≡ colourAt table n k
+  by-test k e = sym (ap (λ (b : Bool). pickN b (entryColour table k) 0) e)
+
+  pub entry-read : (k : ℕ) → k < n → le24 table (k * 4) ≡ colourAt table n k
+  unfolding entryColour
+  entry-read k h = by-test k (lt-ltb k n h)
+
+  pub palette-whole : (d : List ℕ) → n ≤ 256 → Filled (colourAt table n) black n d → d ≡ paletteOf table n
+  unfolding paletteOf
+  palette-whole d h p =
+      filled-all (colourAt table n) black d 256 (length-replicate {A = ℕ} 256 0)
+      (record { long = p .long; front = λ k l. at k l (ltb k n) refl; back = λ k l. p .back k (le-trans h l) })
+    where
+      at : (k : ℕ) → k < 256 → (b : Bool) → ltb k n ≡ b → getD d k 0 ≡ colourAt table n k
+      at k l true e = p .front k (ltb-true k n e)
+      at k l false e = p .back k (ltb-false k n e) ∙ getD-replicate {A = ℕ} 256 k 0 0 l ∙ by-test k e
