@@ -135,14 +135,6 @@ module _ (h : Header) (e : badFields h ≡ false) where
   unfolding entries
   entries-used p = (sym (picked-false _ _ _ (ne-eqb (h .colours) 0 p)), sound h e .colours .1)
 
--- ---- tests joined by and
-
-pub and-true : (a b : Bool) {t : Bool} → a ≡ true → b ≡ t → (a && b) ≡ t
-and-true a b e f = ap (λ (x : Bool). x && b) e ∙ f
-
-pub and-false : (a b : Bool) → a ≡ false → (a && b) ≡ false
-and-false a b e = ap (λ (x : Bool). x && b) e
-
 -- a header part that status 8 lets pass
 pub passed-fields : (n : ℕ) (h : Header) → badHeader n h ≡ false → badFields h ≡ false
 unfolding badHeader

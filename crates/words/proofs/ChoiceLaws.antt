@@ -38,12 +38,18 @@ pub and-both : (a b : Bool) → (a && b) ≡ true → (a ≡ true) × (b ≡ tru
 and-both true b e = (refl, e)
 and-both false b e = absurd (true≢false (sym e))
 
--- tests joined by or, one after the other: the first that holds decides
+-- tests joined, one after the other: the first that holds (of `or`) or fails (of `and`) decides
 pub or-true : (a b : Bool) → a ≡ true → (a || b) ≡ true
 or-true a b e = ap (λ (x : Bool). x || b) e
 
 pub or-false : (a b : Bool) {t : Bool} → a ≡ false → b ≡ t → (a || b) ≡ t
 or-false a b e f = ap (λ (x : Bool). x || b) e ∙ f
+
+pub and-true : (a b : Bool) {t : Bool} → a ≡ true → b ≡ t → (a && b) ≡ t
+and-true a b e f = ap (λ (x : Bool). x && b) e ∙ f
+
+pub and-false : (a b : Bool) → a ≡ false → (a && b) ≡ false
+and-false a b e = ap (λ (x : Bool). x && b) e
 
 -- a choice whose test is known
 pub picked-true : (t : Bool) (a b : ℕ) → t ≡ true → pickN t a b ≡ a

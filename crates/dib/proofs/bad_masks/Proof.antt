@@ -1,8 +1,8 @@
 use mathlib.Core.Path.{sym, _∙_}
 use borrow.Author.Tests.{eq-eqb, ne-eqb}
-use Rattle.words.proofs.ChoiceLaws.{or-true, or-false}
+use Rattle.words.proofs.ChoiceLaws.{or-true, or-false, and-true, and-false}
 use Rattle.dib.specs.Judged.{badMasks}
-use Rattle.dib.proofs.JudgeLaws.{sound, depth-bounds, and-true, and-false}
+use Rattle.dib.proofs.JudgeLaws.{sound, depth-bounds}
 use borrow.Author.Needs.{needs}
 use Rattle.dib.proofs.bad_masks.Statement.{statement}
 use Rattle.dib.proofs.bad_masks.Tie as tie

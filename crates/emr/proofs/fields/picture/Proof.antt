@@ -1,0 +1,56 @@
+use borrow.Author.Needs.{needs}
+use Rattle.emr.proofs.fields.picture.Statement.{statement}
+use Rattle.emr.proofs.fields.picture.Tie as tie
+
+read-u32-requires : tie.Need-read-u32-requires
+read-u32-requires c κs = search needs
+
+add-read-u32 : tie.Need-add-read-u32
+add-read-u32 c = search needs
+
+read-u32-requires-2 : tie.Need-read-u32-requires-2
+read-u32-requires-2 c κs = search needs
+
+read-u32-requires-3 : tie.Need-read-u32-requires-3
+read-u32-requires-3 c κs = search needs
+
+read-u32-requires-4 : tie.Need-read-u32-requires-4
+read-u32-requires-4 c κs = search needs
+
+add-read-u32-2 : tie.Need-add-read-u32-2
+add-read-u32-2 c = search needs
+
+read-u32-requires-5 : tie.Need-read-u32-requires-5
+read-u32-requires-5 c κs = search needs
+
+add-read-u32-3 : tie.Need-add-read-u32-3
+add-read-u32-3 c = search needs
+
+read-u32-requires-6 : tie.Need-read-u32-requires-6
+read-u32-requires-6 c κs = search needs
+
+add-read-u32-4 : tie.Need-add-read-u32-4
+add-read-u32-4 c = search needs
+
+read-u32-requires-7 : tie.Need-read-u32-requires-7
+read-u32-requires-7 c κs = search needs
+
+returns : tie.Need-returns
+returns c = cc
+
+pub picture-spec : {M : Type 1} → statement M
+picture-spec =
+    tie.close
+    (tie.spec
+    read-u32-requires
+    add-read-u32
+    read-u32-requires-2
+    read-u32-requires-3
+    read-u32-requires-4
+    add-read-u32-2
+    read-u32-requires-5
+    add-read-u32-3
+    read-u32-requires-6
+    add-read-u32-4
+    read-u32-requires-7
+    returns)

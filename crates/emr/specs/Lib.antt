@@ -1,0 +1,4 @@
+pub mod Places
+pub mod Transform
+pub mod Numbers
+pub mod Framed
