@@ -1,2 +1,3 @@
 pub mod GeometryLaws
 pub mod CheckLaws
+pub mod AcceptedLaws

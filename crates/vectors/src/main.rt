@@ -1,7 +1,9 @@
-// Runs document 01's "Numbers to check by" through the library's own functions. Each line says what was asked, what came
-// and what should come; the file `stdout` beside src/ holds what document 01 says.
+// Runs document 01's "Numbers to check by" and the records of the file `stdin` through the library's own functions. Each
+// line says what was asked, what came and what should come; the file `stdout` beside src/ holds what document 01 says.
+// tools/vector_records.py writes both files.
 mod line;
 mod numbers;
+mod records;
 
 fn main() {
     numbers::blends();
@@ -13,4 +15,6 @@ fn main() {
     numbers::source_places();
     numbers::mask_places();
     numbers::channel_masks();
+    numbers::halves();
+    records::all();
 }

@@ -1,4 +1,4 @@
-// The numbers of the crate `pixel`.
+// The numbers of the crates `pixel` and `sample`.
 use crate::line;
 use pixel::blend;
 use pixel::masks;
@@ -164,5 +164,19 @@ pub fn channel_masks() {
         b"channel of 6 bits at place 5 of 0xABCD",
         masks::channel(6, 5, 0xABCD) as u64,
         30,
+    );
+}
+
+pub fn halves() {
+    let row = [0x1Fu8];
+    line::number(
+        b"4-bit byte 0x1F, column 0: index",
+        sample::stored::half(&row, 0) as u64,
+        1,
+    );
+    line::number(
+        b"4-bit byte 0x1F, column 1: index",
+        sample::stored::half(&row, 1) as u64,
+        15,
     );
 }

@@ -1,0 +1,24 @@
+use mathlib.Core.Path.{ap, _∙_}
+use Prim.Native.Nat.{ℕ, _+_}
+use Rattle.reading.specs.declared.Reading.{Reading}
+use Rattle.reading.specs.Reading.{viewBytes}
+use Rattle.reading.proofs.ReadingLaws.{within}
+use borrow.Author.Needs.{needs}
+use Rattle.reading.proofs.view_part.Statement.{statement}
+use Rattle.reading.proofs.view_part.Tie as tie
+
+read-requires : tie.Need-read-requires
+read-requires c κs = search needs
+
+part-requires : tie.Need-part-requires
+part-requires c κs = within (c .before .before .args .s .now) (c .before .before .args .mask) (c .read .result) (c .read .ensures) .view
+
+returns : tie.Need-returns
+unfolding viewBytes
+returns c =
+    let s = c .before .before .before .args .s in
+    (c .part .ensures .0 ∙ ap (viewBytes (s .now)) (c .before .read .ensures),
+    c .part .ensures .1 ∙ ap {B = ℕ × ℕ} (λ (r : Reading). (s .ptr .0, s .ptr .1 + r .«view_at»)) (c .before .read .ensures))
+
+pub view-part-spec : {M : Type 1} → statement M
+view-part-spec = tie.close (tie.spec read-requires part-requires returns)

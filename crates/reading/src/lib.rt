@@ -1,0 +1,189 @@
+// Reading a record's source or mask, as answers for everyone: no `requires`, every byte string is answered.
+ghost use mathlib.Core.Path.{_≡_};
+ghost use mathlib.Core.Bool.{false};
+ghost use Prim.Native.Nat.{_+_, _≤_};
+ghost use lib.ListN.{length, take, drop};
+ghost use Rattle.words.specs.Choice.{pickN};
+ghost use lib.Dec.{leb};
+ghost use Rattle.dib.specs.Header.{headerOf, entries};
+ghost use Rattle.dib.specs.Judged.{badFields, badHeader, bitsNeeded};
+ghost use Rattle.emr.specs.Numbers.{absent, headerPart};
+ghost use Rattle.judge.specs.Judged.{headerIn};
+ghost use Rattle.reading.specs.Reading.{emptyReading, fullReading, pictureReading, readingOf, headerBytes, viewBytes, black as blackOf, headerPalette, picturePalette, readPalette};
+use dib::Header;
+use emr::Picture;
+use judge::Checked;
+
+// What a reading answers, but for the bytes: the status, where the header part and the view's bytes stand in the record,
+// width, rows and layout. The masks are 0 under BI_RGB. Where there is no picture, all is 0 in the 1-bit bottom-up layout.
+pub struct Reading {
+    pub status: u32,
+    pub header_at: usize,
+    pub header_len: usize,
+    pub view_at: usize,
+    pub view_len: usize,
+    pub width: u32,
+    pub rows: u32,
+    pub bits: u32,
+    pub compression: u32,
+    pub top_down: bool,
+    pub red: u32,
+    pub green: u32,
+    pub blue: u32,
+    pub alpha: u32,
+}
+
+fn nothing(status: u32) -> Reading
+    ensures { λ r. ⌜ r ≡ emptyReading status ⌝ }
+{
+    Reading {
+        status,
+        header_at: 0,
+        header_len: 0,
+        view_at: 0,
+        view_len: 0,
+        width: 0,
+        rows: 0,
+        bits: 1,
+        compression: 0,
+        top_down: false,
+        red: 0,
+        green: 0,
+        blue: 0,
+        alpha: 0,
+    }
+}
+
+fn full(p: Picture, h: Header) -> Reading
+    requires { ⌜ badFields h ≡ false ⌝ }
+    ensures { λ r. ⌜ r ≡ fullReading p h ⌝ }
+{
+    let view_len = dib::bits_needed(h) as usize;
+    let rows = words::magnitude(h.height);
+    Reading {
+        status: 0,
+        header_at: p.bmi as usize,
+        header_len: p.bmi_len as usize,
+        view_at: p.bits as usize,
+        view_len,
+        width: h.width,
+        rows,
+        bits: h.bits,
+        compression: h.compression,
+        top_down: 2147483648 <= h.height,
+        red: h.red,
+        green: h.green,
+        blue: h.blue,
+        alpha: h.alpha,
+    }
+}
+
+fn of_picture(s: &[u8], p: Picture) -> Reading
+    requires { ⌜ (p .bmi + p .«bmi_len» ≤ length (now s)) × (absent p ≡ false → badFields (headerIn (now s) p) ≡ false) ⌝ }
+    ensures { λ r. ⌜ r ≡ pictureReading (now (s .entry)) p ⌝ }
+{
+    if emr::fields::is_absent(p) {
+        return nothing(0);
+    }
+    full(p, judge::header(s, p))
+}
+
+// The reading for the source, or for the mask.
+pub fn read(s: &[u8], mask: bool) -> Reading
+    ensures { λ r. ⌜ r ≡ readingOf (now (s .entry)) mask ⌝ }
+{
+    let n = match judge::check(s) {
+        Checked::Accepted(n) => n,
+        Checked::Refused(k) => return nothing(k),
+    };
+    if mask {
+        let p = n.mask;
+        return of_picture(s, p);
+    }
+    let p = n.source;
+    of_picture(s, p)
+}
+
+// A part of the record: its own bytes, where they stand.
+fn part(s: &[u8], at: usize, len: usize) -> &[u8]
+    requires { ⌜ at + len ≤ length (now s) ⌝ }
+    ensures { λ r. ⌜ (now r ≡ take len (drop at (now (s .entry)))) × (r .ptr ≡ (s .entry .ptr .0, s .entry .ptr .1 + at)) ⌝ }
+{
+    let to = at + len;
+    &s[at..to]
+}
+
+// The header part: all its bytes, the record's own.
+pub fn header_part(s: &[u8], mask: bool) -> &[u8]
+    ensures { λ r. ⌜ (now r ≡ headerBytes (now (s .entry)) (readingOf (now (s .entry)) mask)) × (r .ptr ≡ (s .entry .ptr .0, s .entry .ptr .1 + readingOf (now (s .entry)) mask .«header_at»)) ⌝ }
+{
+    let r = read(s, mask);
+    let at = r.header_at;
+    let len = r.header_len;
+    part(s, at, len)
+}
+
+// The view's bytes: the first row length · rows of the bits part, the record's own.
+pub fn view_part(s: &[u8], mask: bool) -> &[u8]
+    ensures { λ r. ⌜ (now r ≡ viewBytes (now (s .entry)) (readingOf (now (s .entry)) mask)) × (r .ptr ≡ (s .entry .ptr .0, s .entry .ptr .1 + readingOf (now (s .entry)) mask .«view_at»)) ⌝ }
+{
+    let r = read(s, mask);
+    let at = r.view_at;
+    let len = r.view_len;
+    part(s, at, len)
+}
+
+// ---- the palette
+
+fn black() -> [u32; 256]
+    ensures { λ r. ⌜ r ≡ blackOf ⌝ }
+{
+    [0u32; 256]
+}
+
+// How many entries the palette shows: none at 16 bits and up.
+fn shown_entries(h: Header) -> usize
+    requires { ⌜ badFields h ≡ false ⌝ }
+    ensures { λ r. ⌜ (r ≡ pickN (leb (h .bits) 8) (entries h) 0) × (r ≤ entries h) × (r ≤ 256) ⌝ }
+{
+    if h.bits <= 8 {
+        return dib::table_entries(h);
+    }
+    0
+}
+
+fn header_palette(header: &[u8]) -> [u32; 256]
+    requires { ⌜ badHeader (length (now header)) (headerOf (now header)) ≡ false ⌝ }
+    ensures { λ r. ⌜ r ≡ headerPalette (now (header .entry)) ⌝ }
+{
+    let h = dib::read(header);
+    let n = shown_entries(h);
+    let from = dib::table_start(h);
+    sample::palette::read(&header[from..], n)
+}
+
+fn picture_palette(s: &[u8], p: Picture) -> [u32; 256]
+    requires { ⌜ (p .bmi + p .«bmi_len» ≤ length (now s)) × (absent p ≡ false → badHeader (length (headerPart (now s) p)) (headerIn (now s) p) ≡ false) ⌝ }
+    ensures { λ r. ⌜ r ≡ picturePalette (now (s .entry)) p ⌝ }
+{
+    if emr::fields::is_absent(p) {
+        return black();
+    }
+    header_palette(judge::header_part(s, p))
+}
+
+// The palette of the source, or of the mask; black where there is none.
+pub fn palette(s: &[u8], mask: bool) -> [u32; 256]
+    ensures { λ r. ⌜ r ≡ readPalette (now (s .entry)) mask ⌝ }
+{
+    let n = match judge::check(s) {
+        Checked::Accepted(n) => n,
+        Checked::Refused(_) => return black(),
+    };
+    if mask {
+        let p = n.mask;
+        return picture_palette(s, p);
+    }
+    let p = n.source;
+    picture_palette(s, p)
+}
