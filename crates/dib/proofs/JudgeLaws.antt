@@ -112,9 +112,10 @@ module _ (h : Header) (e : badFields h ≡ false) where
 
   pub start-long : h .compression ≡ 3 → (h .size ≡ 40 → ⊥) → (h .size ≡ tableStart h) × (h .size ≤ 108)
   unfolding tableStart
-  start-long p q =
-      (sym (ap₂ (λ (b c : Bool). h .size + pickN (b && c) 12 0) (eq-eqb (h .compression) 3 p) (ne-eqb (h .size) 40 q) ∙ add-zero (h .size)),
-      size-bound h e)
+  start-long p q = (
+    sym (ap₂ (λ (b c : Bool). h .size + pickN (b && c) 12 0) (eq-eqb (h .compression) 3 p) (ne-eqb (h .size) 40 q) ∙ add-zero (h .size)),
+    size-bound h e,
+  )
 
   pub start-plain : (h .compression ≡ 3 → ⊥) → (h .size ≡ tableStart h) × (h .size ≤ 108)
   unfolding tableStart

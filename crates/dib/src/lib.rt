@@ -7,7 +7,7 @@ ghost use Rattle.dib.specs.Header.{headerOf, tableStart, entries};
 ghost use Rattle.dib.specs.Judged.{badFields, badHeader, badMasks, bitsNeeded, dibStatus};
 
 mod field;
-mod judge;
+mod limits;
 
 // The header's numbers as written: width and height in two's complement. A mask is 0 where the header has none.
 pub struct Header {
@@ -75,7 +75,7 @@ pub fn table_entries(h: Header) -> usize
 {
     if h.colours == 0 {
         if h.bits <= 8 {
-            return judge::most_colours(h.bits) as usize;
+            return limits::most_colours(h.bits) as usize;
         }
         return 0;
     }
@@ -86,25 +86,25 @@ pub fn table_entries(h: Header) -> usize
 fn bad_fields(h: Header) -> bool
     ensures { λ r. ⌜ r ≡ badFields h ⌝ }
 {
-    if judge::bad_size(h.size) {
+    if limits::bad_size(h.size) {
         return true;
     }
     if h.planes != 1 {
         return true;
     }
-    if !judge::is_depth(h.bits) {
+    if !limits::is_depth(h.bits) {
         return true;
     }
-    if judge::bad_compression(h.compression, h.bits) {
+    if limits::bad_compression(h.compression, h.bits) {
         return true;
     }
-    if judge::bad_extent(h.width) {
+    if limits::bad_extent(h.width) {
         return true;
     }
-    if judge::bad_extent(words::magnitude(h.height)) {
+    if limits::bad_extent(words::magnitude(h.height)) {
         return true;
     }
-    judge::bad_colours(h.colours, h.bits)
+    limits::bad_colours(h.colours, h.bits)
 }
 
 // Status 8.
@@ -123,10 +123,10 @@ fn bad_masks(h: Header) -> bool
     ensures { λ r. ⌜ r ≡ badMasks h ⌝ }
 {
     if h.compression == 3 {
-        if judge::bad_channels(h.bits, h.red, h.green, h.blue, h.alpha) {
+        if limits::bad_channels(h.bits, h.red, h.green, h.blue, h.alpha) {
             return true;
         }
-        return judge::bad_overlaps(h.red, h.green, h.blue, h.alpha);
+        return limits::bad_overlaps(h.red, h.green, h.blue, h.alpha);
     }
     false
 }

@@ -19,7 +19,7 @@ pictureOf s corner usage parts = record {
   bmi = le32 s parts;
   «bmi_len» = le32 s (parts + 4);
   bits = le32 s (parts + 8);
-  «bits_len» = le32 s (parts + 12)
+  «bits_len» = le32 s (parts + 12);
 }
 
 abbrev pub noPicture : Picture
@@ -52,7 +52,7 @@ numbersAt s f = record {
   source = pictureOf s (f .corner) (f .usage) (f .parts);
   «cx_src» = le32 s (f .«extent_src»);
   «cy_src» = le32 s (f .«extent_src» + 4);
-  mask = maskPictureOf s (f .mask)
+  mask = maskPictureOf s (f .mask);
 }
 
 unfoldable pub numbersOf : List ℕ → Numbers

@@ -18,7 +18,7 @@ places extent operation corner extentSrc transform usage parts mask fixed = reco
   usage = usage;
   parts = parts;
   mask = mask;
-  fixed = fixed
+  fixed = fixed;
 }
 
 -- Type 0, Size 4, Bounds 8..23 and xDest, yDest at 24, 28 are common. The mask's corner, usage and four stand at 100, 108 and 112.

@@ -24,7 +24,7 @@ transformOf s at = record {
   m21 = float32 s (at + 8);
   m22 = float32 s (at + 12);
   dx = float32 s (at + 16);
-  dy = float32 s (at + 20)
+  dy = float32 s (at + 20);
 }
 
 -- by IEEE's comparison

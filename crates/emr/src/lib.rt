@@ -1,6 +1,6 @@
 // A record's frame: its byte places as one table, its fixed part as numbers, and statuses 3 to 7.
-pub mod frame;
 pub mod fields;
+pub mod frame;
 pub mod table;
 pub mod xform;
 

@@ -44,7 +44,7 @@ picture-fit : (s : List ℕ) (p : Picture) → Inside (length s) p → pictureSt
 unfolding pictureStatus
 picture-fit s p i e = record {
   within = i;
-  sound = λ a. dib-passed (headerPart s p) (p .«bits_len») (sym (picked-false (absent p) 0 (dibStatus (headerPart s p) (p .«bits_len»)) a) ∙ e)
+  sound = λ a. dib-passed (headerPart s p) (p .«bits_len») (sym (picked-false (absent p) 0 (dibStatus (headerPart s p) (p .«bits_len»)) a) ∙ e);
 }
 
 accepted-is : (k : ℕ) (n m : Numbers) → Accepted n ≡ settled k m → (k ≡ 0) × (n ≡ m)
@@ -73,5 +73,5 @@ accepted s n e =
       frame = f .0;
       source = picture-fit s (numbersOf s .source) (i .0) (l .0);
       mask = picture-fit s (numbersOf s .mask) (i .1) (l .1);
-      call = d .1
+      call = d .1;
     })

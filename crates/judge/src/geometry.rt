@@ -96,7 +96,15 @@ fn bad_source(x: u32, y: u32, cx: u32, cy: u32, width: u32, rows: u32) -> bool
     sticks_out(y, cy, rows)
 }
 
-pub fn bad_present_source(absent: bool, x: u32, y: u32, cx: u32, cy: u32, width: u32, rows: u32) -> bool
+pub fn bad_present_source(
+    absent: bool,
+    x: u32,
+    y: u32,
+    cx: u32,
+    cy: u32,
+    width: u32,
+    rows: u32,
+) -> bool
     ensures { λ r. ⌜ r ≡ (not absent && badSource x y cx cy width rows) ⌝ }
 {
     if absent {

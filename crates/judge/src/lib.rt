@@ -60,7 +60,15 @@ fn bad_geometry(n: Numbers, h: Header) -> bool
     if geometry::bad_signs(n.kind, n.cx, n.cy, n.cx_src, n.cy_src) {
         return true;
     }
-    if geometry::bad_present_source(emr::fields::is_absent(source), source.x, source.y, n.cx_src, n.cy_src, h.width, words::magnitude(h.height)) {
+    if geometry::bad_present_source(
+        emr::fields::is_absent(source),
+        source.x,
+        source.y,
+        n.cx_src,
+        n.cy_src,
+        h.width,
+        words::magnitude(h.height),
+    ) {
         return true;
     }
     if emr::fields::is_absent(mask) {

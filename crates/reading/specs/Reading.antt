@@ -38,7 +38,7 @@ emptyReading status = record {
   red = 0;
   green = 0;
   blue = 0;
-  alpha = 0
+  alpha = 0;
 }
 
 -- "The header part, too, is handed back, all cbBmi bytes where they stand"; the view's bytes "are the first row length · rows bytes of
@@ -58,7 +58,7 @@ fullReading p h = record {
   red = h .red;
   green = h .green;
   blue = h .blue;
-  alpha = h .alpha
+  alpha = h .alpha;
 }
 
 abbrev pub pickReading : Bool → Reading → Reading → Reading

@@ -1,3 +1,4 @@
 pub mod ColourLaws
 pub mod StoredLaws
 pub mod PaletteLaws
+pub mod AtLaws

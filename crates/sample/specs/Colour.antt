@@ -1,5 +1,5 @@
 -- Document 01, "Reading a picture": the colour and alpha of a stored number. Definitions only.
-use Prim.Native.Nat.{ℕ, _+_, _*_, _^_}
+use Prim.Native.Nat.{ℕ, _+_, _*_, _^_, _≤_}
 use mathlib.Core.Bool.{Bool, _&&_}
 use mathlib.Core.List.{List}
 use lib.ListN.{getD}
@@ -23,6 +23,13 @@ masksOf bits compression red green blue alpha format1 = record {
   blue = pickN (eqb compression 3) blue (pickN (eqb bits 16) 0x001F 0xFF);
   alpha = pickN (eqb compression 3) alpha (pickN (format1 && eqb bits 32) 0xFF000000 0);
 }
+
+-- masks that a pixel above 8 bits is read with: 1 to 8 ones each, an alpha none or as many
+pub record Sampled (m : Masks) : Type 0 where
+  pub red : (1 ≤ maskWidth (m .red)) × (maskWidth (m .red) ≤ 8)
+  pub green : (1 ≤ maskWidth (m .green)) × (maskWidth (m .green) ≤ 8)
+  pub blue : (1 ≤ maskWidth (m .blue)) × (maskWidth (m .blue) ≤ 8)
+  pub alpha : maskWidth (m .alpha) ≤ 8
 
 -- "Where a layout has no alpha, alpha is 255."
 unfoldable pub alphaOf : (mask n : ℕ) → ℕ

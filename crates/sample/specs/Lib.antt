@@ -1,3 +1,4 @@
 pub mod Palette
 pub mod Stored
 pub mod Colour
+pub mod At

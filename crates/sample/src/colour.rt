@@ -4,7 +4,8 @@ ghost use Prim.Native.Nat.{_^_, _≤_, _<_};
 ghost use lib.ListN.{getD};
 ghost use Rattle.pixel.specs.Masks.{maskWidth};
 ghost use Rattle.pixel.specs.Widen.{Widens};
-ghost use Rattle.sample.specs.Colour.{channel8 as channel8Of, masksOf, alphaOf, masked as maskedOf, shown as shownOf};
+ghost use Rattle.sample.specs.At.{Colours};
+ghost use Rattle.sample.specs.Colour.{Sampled, channel8 as channel8Of, masksOf, alphaOf, masked as maskedOf, shown as shownOf};
 use crate::Masks;
 
 // The masks in force.
@@ -75,7 +76,7 @@ pub fn alpha(t: &[u8; 510], mask: u32, n: u32) -> u8
 
 // The pixel that masks make of a stored number.
 pub fn masked(t: &[u8; 510], m: Masks, n: u32) -> u32
-    requires { ⌜ (1 ≤ maskWidth (m .red)) × (maskWidth (m .red) ≤ 8) × (1 ≤ maskWidth (m .green)) × (maskWidth (m .green) ≤ 8) × (1 ≤ maskWidth (m .blue)) × (maskWidth (m .blue) ≤ 8) × (maskWidth (m .alpha) ≤ 8) × Widens (now t) ⌝ }
+    requires { ⌜ Sampled m × Widens (now t) ⌝ }
     ensures { λ r. ⌜ r ≡ maskedOf m n ⌝ }
 {
     let a = alpha(t, m.alpha, n);
@@ -83,4 +84,28 @@ pub fn masked(t: &[u8; 510], m: Masks, n: u32) -> u32
     let g = channel8(t, m.green, n);
     let b = channel8(t, m.blue, n);
     pixel::blend::join(a, r, g, b)
+}
+
+// The pixel of a stored number: by the palette up to 8 bits, by the masks above.
+pub fn shown(t: &[u8; 510], bits: u32, palette: &[u32; 256], m: Masks, n: u32) -> u32
+    requires { ⌜ Widens (now t) × Colours (now palette) × (8 < bits → Sampled m) ⌝ }
+    ensures { λ r. ⌜ r ≡ shownOf bits (now (palette .entry)) m n ⌝ }
+{
+    if bits <= 8 {
+        return 0xFF000000 + entry(palette, n);
+    }
+    masked(t, m, n)
+}
+
+// An index past the palette shows black.
+fn entry(palette: &[u32; 256], n: u32) -> u32
+    requires { ⌜ Colours (now palette) ⌝ }
+    ensures { λ r. ⌜ (r ≡ getD (now (palette .entry)) n 0) × (r < 2 ^ 24) ⌝ }
+{
+    let colours: &[u32] = palette;
+    let k = n as usize;
+    if k < colours.len() {
+        return colours[k];
+    }
+    0
 }

@@ -1,4 +1,5 @@
 // A DIB's pixels: the palette, the number stored at a column of a row, and its colour and alpha.
+pub mod at;
 pub mod colour;
 pub mod palette;
 pub mod stored;

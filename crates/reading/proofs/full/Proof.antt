@@ -35,7 +35,7 @@ returns c =
       red = a .h .red;
       green = a .h .green;
       blue = a .h .blue;
-      alpha = a .h .alpha
+      alpha = a .h .alpha;
     }
 
 pub full-spec : {M : Type 1} → statement M

@@ -34,9 +34,10 @@ part-read-end c = search needs
 
 read-requires-2 : tie.Need-read-requires-2
 read-requires-2 c κs =
-    let t = c .before .table-start in
-    (c .before .before .shown-entries .ensures .2,
-    table-in _ (c .before .before .before .read .result) (c .before .before .before .read .ensures) (c .before .before .before .before .before .pre) (c .before .before .shown-entries .result) (t .result) (t .ensures .0) (c .before .before .shown-entries .ensures .1))
+    let t = c .before .table-start in (
+      c .before .before .shown-entries .ensures .2,
+      table-in _ (c .before .before .before .read .result) (c .before .before .before .read .ensures) (c .before .before .before .before .before .pre) (c .before .before .shown-entries .result) (t .result) (t .ensures .0) (c .before .before .shown-entries .ensures .1),
+    )
 
 returns : tie.Need-returns
 returns c =

@@ -16,9 +16,10 @@ part-requires c κs = within (c .before .before .args .s .now) (c .before .befor
 returns : tie.Need-returns
 unfolding headerBytes
 returns c =
-    let s = c .before .before .before .args .s in
-    (c .part .ensures .0 ∙ ap (headerBytes (s .now)) (c .before .read .ensures),
-    c .part .ensures .1 ∙ ap {B = ℕ × ℕ} (λ (r : Reading). (s .ptr .0, s .ptr .1 + r .«header_at»)) (c .before .read .ensures))
+    let s = c .before .before .before .args .s in (
+      c .part .ensures .0 ∙ ap (headerBytes (s .now)) (c .before .read .ensures),
+      c .part .ensures .1 ∙ ap {B = ℕ × ℕ} (λ (r : Reading). (s .ptr .0, s .ptr .1 + r .«header_at»)) (c .before .read .ensures),
+    )
 
 pub header-part-spec : {M : Type 1} → statement M
 header-part-spec = tie.close (tie.spec read-requires part-requires returns)

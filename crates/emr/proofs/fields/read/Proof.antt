@@ -78,7 +78,7 @@ returns c =
       source = c .before .before .before .before .picture .ensures t;
       «cx_src» = c .before .before .before .read-u3211 .ensures t;
       «cy_src» = c .before .read-u3212 .ensures t;
-      mask = c .mask-picture .ensures t
+      mask = c .mask-picture .ensures t;
     })
 
 pub read-spec : {M : Type 1} → statement M

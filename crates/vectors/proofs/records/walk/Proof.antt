@@ -1,3 +1,4 @@
+-- The walk stays in the bytes: an entry is no longer than the bytes from its place on, and a place that moves leaves fewer.
 use lib.ListN.{length, take, drop, length-drop}
 use lib.Seq.{length-take-le}
 use mathlib.Core.List.{List}
