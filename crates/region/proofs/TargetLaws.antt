@@ -54,4 +54,8 @@ pick-on false w h t p q = (record { ends = λ e. omega arith }, record { ends = 
 pub inside : (w h : ℕ) (clip bounds : Rectangle) (x y cx cy : ℕ)
     → On w (targetOf w h clip bounds x y cx cy .columns) × On h (targetOf w h clip bounds x y cx cy .rows)
 unfolding targetOf
-inside w h clip bounds x y cx cy = pick-on _ w h _ (clipped-on (clip .left) (clip .right) x cx w) (clipped-on (clip .top) (clip .bottom) y cy h)
+inside w h clip bounds x y cx cy =
+    pick-on
+    (meets (clip .left) (clip .right) (bounds .left) (bounds .right) w && meets (clip .top) (clip .bottom) (bounds .top) (bounds .bottom) h)
+    w h (record { columns = clipped (clip .left) (clip .right) x cx w; rows = clipped (clip .top) (clip .bottom) y cy h })
+    (clipped-on (clip .left) (clip .right) x cx w) (clipped-on (clip .top) (clip .bottom) y cy h)
