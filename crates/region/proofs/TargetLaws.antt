@@ -14,7 +14,7 @@ use Rattle.region.specs.declared.Rectangle.{Rectangle}
 use Rattle.region.specs.Axis.{cutEdge, meets, targetStart, targetHidden, clipped}
 use Rattle.region.specs.Target.{Place, row, block, nowhere, pickTarget, targetOf, placesIn}
 
-length-row : (x n y : ℕ) → length (row x n y) ≡ n
+pub length-row : (x n y : ℕ) → length (row x n y) ≡ n
 unfolding row
 length-row x zero y = refl
 length-row x (suc n) y = ap suc (length-row (suc x) n y)

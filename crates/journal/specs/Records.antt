@@ -1,0 +1,35 @@
+-- Document 01, "The journal": its records as numbers and as bytes, and what a play saves. Definitions only.
+use Prim.Native.Nat.{ℕ}
+use mathlib.Core.List.{List, [], _∷_, _++_}
+use lib.ListN.{getD}
+use Rattle.words.specs.Bytes.{bytes32}
+use Rattle.region.specs.Target.{Place}
+use Rattle.journal.specs.Drawing.{index, Paint, dot}
+
+-- "Records of 12 bytes, no header: three 32-bit numbers."
+abbrev pub stride : ℕ
+stride = 12
+
+pub record Entry : Type 0 where
+  pub first : ℕ
+  pub second : ℕ
+  pub third : ℕ
+
+abbrev pub entry : (first second third : ℕ) → Entry
+entry first second third = record { first = first; second = second; third = third }
+
+abbrev pub entryBytes : (first second third : ℕ) → List ℕ
+entryBytes first second third = bytes32 first ++ (bytes32 second ++ bytes32 third)
+
+unfoldable pub bytesOf : List Entry → List ℕ
+bytesOf [] = []
+bytesOf (e ∷ es) = entryBytes (e .first) (e .second) (e .third) ++ bytesOf es
+
+-- "Pixel record: x, y, old pixel; row by row, left to right": of each place, the pixel as it is when its turn comes
+unfoldable pub saved : (width : ℕ) → Paint → List Place → List ℕ → List Entry
+saved width paint [] s = []
+saved width paint (p ∷ ps) s = entry (p .x) (p .y) (getD s (index width (p .x) (p .y)) 0) ∷ saved width paint ps (dot width paint (p .x) (p .y) s)
+
+-- "Closing record: 0xFFFFFFFF, number of pixel records, record type."
+abbrev pub closing : (count kind : ℕ) → Entry
+closing count kind = entry 0xFFFFFFFF count kind
