@@ -5,9 +5,12 @@ use Prim.Native.Nat.{ℕ, _+_, _-_, _*_, _<_}
 use native.Mathlib.Nat.{add-sub-cancel-left}
 use lib.ListN.{getD, set}
 use lib.Seq.{sets}
-use Rattle.journal.specs.Drawing.{Paint}
-use Rattle.journal.specs.Records.{stride, entryBytes}
+use Rattle.region.specs.Target.{Place}
+use Rattle.journal.specs.Drawing.{Paint, drawn}
+use Rattle.journal.specs.Records.{stride, entryBytes, bytesOf, saved}
 use Rattle.journal.proofs.RowLaws.{Row, row-turns}
+use Rattle.paint.specs.declared.Rule.{Rule}
+use Rattle.paint.specs.Paints.{rowPaint}
 
 -- the row's first pixel stands in column x
 abbrev along : (g : (i old : ℕ) → ℕ) (x : ℕ) → Paint
@@ -19,3 +22,14 @@ pub turns : (g : (i old : ℕ) → ℕ) (w at x n y : ℕ) (s₀ j₀ s j j1 : L
 turns g w at x n y s₀ j₀ s j j1 i v r h ev ej =
     row-turns w (along g x) at x n y s₀ j₀ s j j1 i v r h
     (ev ∙ ap (λ (k : ℕ). g k (getD s (y * w + x + i) 0)) (sym (add-sub-cancel-left x i))) ej
+
+-- a row drawn by a rule that is known; a rule that asks for no bits draws the same whatever they are
+pub drawn-by : (known rule : Rule) (w : ℕ) (colours bits : List ℕ) (x : ℕ) (ps : List Place) (s r : List ℕ) → rule ≡ known
+    → r ≡ drawn w (rowPaint known colours bits x) ps s → r ≡ drawn w (rowPaint rule colours bits x) ps s
+drawn-by known rule w colours bits x ps s r e q = q ∙ sym (ap (λ (u : Rule). drawn w (rowPaint u colours bits x) ps s) e)
+
+pub saved-by : (known rule : Rule) (w : ℕ) (colours bits : List ℕ) (x at : ℕ) (ps : List Place) (s j r : List ℕ) → rule ≡ known
+    → r ≡ sets j (at * stride) (bytesOf (saved w (rowPaint known colours bits x) ps s))
+    → r ≡ sets j (at * stride) (bytesOf (saved w (rowPaint rule colours bits x) ps s))
+saved-by known rule w colours bits x at ps s j r e q =
+    q ∙ sym (ap (λ (u : Rule). sets j (at * stride) (bytesOf (saved w (rowPaint u colours bits x) ps s))) e)

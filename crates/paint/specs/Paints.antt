@@ -1,4 +1,4 @@
--- What a pixel of a row becomes, by the play's rule: the row's source colours begin at column x. Definitions only.
+-- What a pixel becomes, by the play's rule. Definitions only.
 use Prim.Native.Nat.{ℕ, _-_}
 use mathlib.Core.List.{List}
 use lib.ListN.{getD}
@@ -7,21 +7,18 @@ use Rattle.words.specs.Choice.{pickN}
 use Rattle.pixel.specs.Blend.{over0, over1}
 use Rattle.pixel.specs.Raster.{rasterPixel}
 use Rattle.journal.specs.Drawing.{Paint}
+use Rattle.paint.specs.declared.Rule.{Rule}
+use Rattle.paint.specs.declared.Rule.the-variants.{Blend0, Blend1, Raster, Masked}
 
--- alpha format 0 and 1, at constant alpha c
-abbrev pub paint0 : (colours : List ℕ) (x c : ℕ) → Paint
-paint0 colours x c old column row = over0 (getD colours (column - x) 0) old c
+-- from the source pixel, the mask's bit and the old pixel: alpha format 0 or 1 at constant alpha c, a raster operation, or "the
+-- foreground byte at mask bit 1, the background byte at 0"
+abbrev pub paintedBy : Rule → (source bit old : ℕ) → ℕ
+paintedBy (Blend0 c) source bit old = over0 source old c
+paintedBy (Blend1 c) source bit old = over1 source old c
+paintedBy (Raster op brush) source bit old = rasterPixel op brush source old
+paintedBy (Masked foreground background brush) source bit old =
+    pickN (eqb bit 1) (rasterPixel foreground brush source old) (rasterPixel background brush source old)
 
-abbrev pub paint1 : (colours : List ℕ) (x c : ℕ) → Paint
-paint1 colours x c old column row = over1 (getD colours (column - x) 0) old c
-
--- a raster operation
-abbrev pub paintRaster : (op brush : ℕ) (colours : List ℕ) (x : ℕ) → Paint
-paintRaster op brush colours x old column row = rasterPixel op brush (getD colours (column - x) 0) old
-
--- "MASKBLT uses the foreground byte at mask bit 1, the background byte at 0"
-abbrev pub paintMasked : (foreground background brush : ℕ) (colours bits : List ℕ) (x : ℕ) → Paint
-paintMasked foreground background brush colours bits x old column row =
-    pickN (eqb (getD bits (column - x) 0) 1)
-    (rasterPixel foreground brush (getD colours (column - x) 0) old)
-    (rasterPixel background brush (getD colours (column - x) 0) old)
+-- a row's source pixels and mask bits begin at column x
+abbrev pub rowPaint : Rule → (colours bits : List ℕ) (x : ℕ) → Paint
+rowPaint rule colours bits x old column row = paintedBy rule (getD colours (column - x) 0) (getD bits (column - x) 0) old

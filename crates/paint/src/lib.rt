@@ -1,19 +1,64 @@
-// Rows of a play: one loop each, which saves the old pixel and writes the new. `colours` are the row's source pixels, for the
-// columns from x on; the records go to the journal from record `at` on.
+// A row of a play: one loop for each rule, which saves the old pixel and writes the new. The rule is chosen once a row: a choice
+// inside the loop would keep it from being vectorised.
 ghost use mathlib.Core.Path.{_≡_};
 ghost use Prim.Native.Nat.{_+_, _*_, _≤_};
+ghost use mathlib.Core.List.{[]};
 ghost use lib.ListN.{length};
 ghost use lib.Seq.{sets};
-ghost use Rattle.region.specs.Target.{row};
+ghost use Rattle.region.specs.Target.{row as placesOfRow};
 ghost use Rattle.journal.specs.Drawing.{drawn};
 ghost use Rattle.journal.specs.Records.{stride, bytesOf, saved};
-ghost use lib.Dec.{eqb};
-ghost use Rattle.words.specs.Choice.{pickN};
-ghost use Rattle.pixel.specs.Raster.{rasterPixel};
-ghost use Rattle.paint.specs.Paints.{paint0, paint1, paintRaster, paintMasked};
+ghost use Rattle.paint.specs.Paints.{paintedBy, rowPaint};
 
-// Alpha format 0.
-pub fn over0(
+// What a pixel becomes: blended in alpha format 0 or 1 at a constant alpha, by a raster operation and a brush, or by one of two
+// raster operations (foreground, background) as the mask's bit says.
+pub enum Rule {
+    Blend0(u8),
+    Blend1(u8),
+    Raster(u8, u32),
+    Masked(u8, u8, u32),
+}
+
+// Draws a row. Its source pixels and mask bits are those of the columns from x on; the records go to the journal from record
+// `at` on.
+pub fn row(
+    surface: &mut [u32],
+    width: u32,
+    journal: &mut [u8],
+    at: usize,
+    x: u32,
+    y: u32,
+    colours: &[u32],
+    bits: &[u8],
+    rule: Rule,
+)
+    requires { ⌜ (x + length (now colours) ≤ width) × (length (now colours) ≤ length (now bits)) ⌝ }
+    requires { ⌜ y * width + width ≤ length (now surface) ⌝ }
+    requires { ⌜ (at + length (now colours)) * stride ≤ length (now journal) ⌝ }
+    ensures { λ _. ⌜ now (surface .exit) ≡ drawn width (rowPaint rule (now (colours .entry)) (now (bits .entry)) x) (placesOfRow x (length (now (colours .entry))) y) (now (surface .entry)) ⌝ }
+    ensures { λ _. ⌜ now (journal .exit) ≡ sets (now (journal .entry)) (at * stride) (bytesOf (saved width (rowPaint rule (now (colours .entry)) (now (bits .entry)) x) (placesOfRow x (length (now (colours .entry))) y) (now (surface .entry)))) ⌝ }
+{
+    match rule {
+        Rule::Blend0(c) => over0(surface, width, journal, at, x, y, colours, c),
+        Rule::Blend1(c) => over1(surface, width, journal, at, x, y, colours, c),
+        Rule::Raster(op, brush) => raster(surface, width, journal, at, x, y, colours, op, brush),
+        Rule::Masked(foreground, background, brush) => masked(
+            surface,
+            width,
+            journal,
+            at,
+            x,
+            y,
+            colours,
+            bits,
+            foreground,
+            background,
+            brush,
+        ),
+    }
+}
+
+fn over0(
     surface: &mut [u32],
     width: u32,
     journal: &mut [u8],
@@ -26,8 +71,8 @@ pub fn over0(
     requires { ⌜ x + length (now colours) ≤ width ⌝ }
     requires { ⌜ y * width + width ≤ length (now surface) ⌝ }
     requires { ⌜ (at + length (now colours)) * stride ≤ length (now journal) ⌝ }
-    ensures { λ _. ⌜ now (surface .exit) ≡ drawn width (paint0 (now (colours .entry)) x c) (row x (length (now (colours .entry))) y) (now (surface .entry)) ⌝ }
-    ensures { λ _. ⌜ now (journal .exit) ≡ sets (now (journal .entry)) (at * stride) (bytesOf (saved width (paint0 (now (colours .entry)) x c) (row x (length (now (colours .entry))) y) (now (surface .entry)))) ⌝ }
+    ensures { λ _. ⌜ now (surface .exit) ≡ drawn width (rowPaint (Rule.Blend0 c) (now (colours .entry)) [] x) (placesOfRow x (length (now (colours .entry))) y) (now (surface .entry)) ⌝ }
+    ensures { λ _. ⌜ now (journal .exit) ≡ sets (now (journal .entry)) (at * stride) (bytesOf (saved width (rowPaint (Rule.Blend0 c) (now (colours .entry)) [] x) (placesOfRow x (length (now (colours .entry))) y) (now (surface .entry)))) ⌝ }
 {
     let start = y as usize * width as usize + x as usize;
     let mut i = 0;
@@ -40,8 +85,7 @@ pub fn over0(
     }
 }
 
-// Alpha format 1.
-pub fn over1(
+fn over1(
     surface: &mut [u32],
     width: u32,
     journal: &mut [u8],
@@ -54,8 +98,8 @@ pub fn over1(
     requires { ⌜ x + length (now colours) ≤ width ⌝ }
     requires { ⌜ y * width + width ≤ length (now surface) ⌝ }
     requires { ⌜ (at + length (now colours)) * stride ≤ length (now journal) ⌝ }
-    ensures { λ _. ⌜ now (surface .exit) ≡ drawn width (paint1 (now (colours .entry)) x c) (row x (length (now (colours .entry))) y) (now (surface .entry)) ⌝ }
-    ensures { λ _. ⌜ now (journal .exit) ≡ sets (now (journal .entry)) (at * stride) (bytesOf (saved width (paint1 (now (colours .entry)) x c) (row x (length (now (colours .entry))) y) (now (surface .entry)))) ⌝ }
+    ensures { λ _. ⌜ now (surface .exit) ≡ drawn width (rowPaint (Rule.Blend1 c) (now (colours .entry)) [] x) (placesOfRow x (length (now (colours .entry))) y) (now (surface .entry)) ⌝ }
+    ensures { λ _. ⌜ now (journal .exit) ≡ sets (now (journal .entry)) (at * stride) (bytesOf (saved width (rowPaint (Rule.Blend1 c) (now (colours .entry)) [] x) (placesOfRow x (length (now (colours .entry))) y) (now (surface .entry)))) ⌝ }
 {
     let start = y as usize * width as usize + x as usize;
     let mut i = 0;
@@ -68,8 +112,7 @@ pub fn over1(
     }
 }
 
-// A raster operation.
-pub fn raster(
+fn raster(
     surface: &mut [u32],
     width: u32,
     journal: &mut [u8],
@@ -83,8 +126,8 @@ pub fn raster(
     requires { ⌜ x + length (now colours) ≤ width ⌝ }
     requires { ⌜ y * width + width ≤ length (now surface) ⌝ }
     requires { ⌜ (at + length (now colours)) * stride ≤ length (now journal) ⌝ }
-    ensures { λ _. ⌜ now (surface .exit) ≡ drawn width (paintRaster op brush (now (colours .entry)) x) (row x (length (now (colours .entry))) y) (now (surface .entry)) ⌝ }
-    ensures { λ _. ⌜ now (journal .exit) ≡ sets (now (journal .entry)) (at * stride) (bytesOf (saved width (paintRaster op brush (now (colours .entry)) x) (row x (length (now (colours .entry))) y) (now (surface .entry)))) ⌝ }
+    ensures { λ _. ⌜ now (surface .exit) ≡ drawn width (rowPaint (Rule.Raster op brush) (now (colours .entry)) [] x) (placesOfRow x (length (now (colours .entry))) y) (now (surface .entry)) ⌝ }
+    ensures { λ _. ⌜ now (journal .exit) ≡ sets (now (journal .entry)) (at * stride) (bytesOf (saved width (rowPaint (Rule.Raster op brush) (now (colours .entry)) [] x) (placesOfRow x (length (now (colours .entry))) y) (now (surface .entry)))) ⌝ }
 {
     let start = y as usize * width as usize + x as usize;
     let mut i = 0;
@@ -97,8 +140,7 @@ pub fn raster(
     }
 }
 
-// MASKBLT: one of two raster operations, by the row's mask bits.
-pub fn masked(
+fn masked(
     surface: &mut [u32],
     width: u32,
     journal: &mut [u8],
@@ -115,8 +157,8 @@ pub fn masked(
     requires { ⌜ length (now colours) ≤ length (now bits) ⌝ }
     requires { ⌜ y * width + width ≤ length (now surface) ⌝ }
     requires { ⌜ (at + length (now colours)) * stride ≤ length (now journal) ⌝ }
-    ensures { λ _. ⌜ now (surface .exit) ≡ drawn width (paintMasked foreground background brush (now (colours .entry)) (now (bits .entry)) x) (row x (length (now (colours .entry))) y) (now (surface .entry)) ⌝ }
-    ensures { λ _. ⌜ now (journal .exit) ≡ sets (now (journal .entry)) (at * stride) (bytesOf (saved width (paintMasked foreground background brush (now (colours .entry)) (now (bits .entry)) x) (row x (length (now (colours .entry))) y) (now (surface .entry)))) ⌝ }
+    ensures { λ _. ⌜ now (surface .exit) ≡ drawn width (rowPaint (Rule.Masked foreground background brush) (now (colours .entry)) (now (bits .entry)) x) (placesOfRow x (length (now (colours .entry))) y) (now (surface .entry)) ⌝ }
+    ensures { λ _. ⌜ now (journal .exit) ≡ sets (now (journal .entry)) (at * stride) (bytesOf (saved width (rowPaint (Rule.Masked foreground background brush) (now (colours .entry)) (now (bits .entry)) x) (placesOfRow x (length (now (colours .entry))) y) (now (surface .entry)))) ⌝ }
 {
     let start = y as usize * width as usize + x as usize;
     let mut i = 0;
@@ -129,9 +171,9 @@ pub fn masked(
     }
 }
 
-// Both outcomes are worked out and one is picked, so that the loop has no branch on what the mask holds.
+// Both outcomes are worked out and one is picked: no branch on what the mask holds.
 fn one_of(bit: u8, foreground: u8, background: u8, brush: u32, source: u32, old: u32) -> u32
-    ensures { λ r. ⌜ r ≡ pickN (eqb bit 1) (rasterPixel foreground brush source old) (rasterPixel background brush source old) ⌝ }
+    ensures { λ r. ⌜ r ≡ paintedBy (Rule.Masked foreground background brush) source bit old ⌝ }
 {
     let one = pixel::raster::pixel(foreground, brush, source, old);
     let zero = pixel::raster::pixel(background, brush, source, old);

@@ -3,7 +3,8 @@ use native.Mathlib.Omega.{arith}
 use lib.ListN.{length, getD}
 use lib.Dec.{eqb}
 use Rattle.words.specs.Choice.{pickN}
-use Rattle.paint.specs.Paints.{paintMasked}
+use Rattle.paint.specs.declared.Rule.the-variants.{Masked}
+use Rattle.paint.specs.Paints.{rowPaint}
 use Rattle.pixel.specs.Raster.{rasterPixel}
 use Rattle.journal.proofs.RowLaws.{Row, row-begins, row-ends}
 use Rattle.paint.proofs.TurnLaws.{turns}
@@ -12,7 +13,7 @@ use Rattle.paint.proofs.masked.Tie as tie
 
 abbrev Inv-loop : tie.InvT-loop
 Inv-loop surface₀ width journal₀ at x y colours bits foreground background brush start i₀ surface journal i =
-    Row width (paintMasked foreground background brush colours bits x) at x (length colours) y surface₀ journal₀ surface journal i
+    Row width (rowPaint (Masked foreground background brush) colours bits x) at x (length colours) y surface₀ journal₀ surface journal i
 
 abbrev μ-loop : tie.MeasureT-loop
 μ-loop surface₀ width journal₀ at x y colours bits foreground background brush start i₀ surface journal i =

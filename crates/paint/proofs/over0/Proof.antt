@@ -1,7 +1,9 @@
 use Prim.Native.Nat.{ℕ, _-_}
 use native.Mathlib.Omega.{arith}
 use lib.ListN.{length, getD}
-use Rattle.paint.specs.Paints.{paint0}
+use Rattle.paint.specs.declared.Rule.the-variants.{Blend0}
+use Rattle.paint.specs.Paints.{rowPaint}
+use mathlib.Core.List.{[]}
 use Rattle.pixel.specs.Blend.{over0}
 use Rattle.journal.proofs.RowLaws.{Row, row-begins, row-ends}
 use Rattle.paint.proofs.TurnLaws.{turns}
@@ -9,7 +11,7 @@ use Rattle.paint.proofs.over0.Statement.{statement}
 use Rattle.paint.proofs.over0.Tie as tie
 
 abbrev Inv-loop : tie.InvT-loop
-Inv-loop surface₀ width journal₀ at x y colours c start i₀ surface journal i = Row width (paint0 colours x c) at x (length colours) y surface₀ journal₀ surface journal i
+Inv-loop surface₀ width journal₀ at x y colours c start i₀ surface journal i = Row width (rowPaint (Blend0 c) colours [] x) at x (length colours) y surface₀ journal₀ surface journal i
 
 abbrev μ-loop : tie.MeasureT-loop
 μ-loop surface₀ width journal₀ at x y colours c start i₀ surface journal i = length colours - i
