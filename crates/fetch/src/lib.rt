@@ -1,0 +1,142 @@
+// A row of source pixels, fetched once a row: one loop for each layout, so that nothing is decided at a pixel.
+ghost use mathlib.Core.Path.{_≡_};
+ghost use Prim.Native.Nat.{_+_, _*_, _^_, _≤_, _<_};
+ghost use lib.ListN.{length, getD};
+ghost use Rattle.words.specs.Filled.{Filled};
+ghost use mathlib.Core.Bool.{true};
+ghost use Rattle.pixel.specs.Place.{isDepth};
+ghost use Rattle.pixel.specs.Widen.{Widens};
+ghost use Rattle.sample.specs.At.{Colours};
+ghost use Rattle.sample.specs.Colour.{Sampled};
+ghost use Rattle.fetch.specs.Fetched.{fetched, InLine, noMasks};
+ghost use mathlib.Core.List.{[]};
+use sample::Masks;
+
+// Fills the front of `out` with the source pixels of `columns`, from the bytes of their row.
+pub fn row(
+    t: &[u8; 510],
+    bits: u32,
+    palette: &[u32; 256],
+    m: Masks,
+    line: &[u8],
+    columns: &[u32],
+    out: &mut [u32],
+)
+    requires { ⌜ (isDepth bits ≡ true) × (length (now columns) ≤ length (now out)) × InLine bits (now line) (now columns) ⌝ }
+    requires { ⌜ Widens (now t) × Colours (now palette) × (8 < bits → Sampled m) ⌝ }
+    ensures { λ _. ⌜ Filled (fetched bits (now (palette .entry)) m (now (line .entry)) (now (columns .entry))) (now (out .entry)) (length (now (columns .entry))) (now (out .exit)) ⌝ }
+{
+    if bits == 1 {
+        one_bit(palette, line, columns, out);
+        return;
+    }
+    if bits == 4 {
+        four_bits(palette, line, columns, out);
+        return;
+    }
+    if bits == 8 {
+        eight_bits(palette, line, columns, out);
+        return;
+    }
+    if bits == 16 {
+        masked16(t, m, line, columns, out);
+        return;
+    }
+    if bits == 24 {
+        masked24(t, m, line, columns, out);
+        return;
+    }
+    masked32(t, m, line, columns, out);
+}
+
+// 1 bits.
+fn one_bit(palette: &[u32; 256], line: &[u8], columns: &[u32], out: &mut [u32])
+    requires { ⌜ (length (now columns) ≤ length (now out)) × InLine 1 (now line) (now columns) ⌝ }
+    requires { ⌜ Colours (now palette) ⌝ }
+    ensures { λ _. ⌜ Filled (fetched 1 (now (palette .entry)) noMasks (now (line .entry)) (now (columns .entry))) (now (out .entry)) (length (now (columns .entry))) (now (out .exit)) ⌝ }
+{
+    let mut i = 0;
+    while i < columns.len() {
+        let column = columns[i] as usize;
+        out[i] = opaque(palette, sample::stored::bit(line, column));
+        i += 1;
+    }
+}
+
+// 4 bits.
+fn four_bits(palette: &[u32; 256], line: &[u8], columns: &[u32], out: &mut [u32])
+    requires { ⌜ (length (now columns) ≤ length (now out)) × InLine 4 (now line) (now columns) ⌝ }
+    requires { ⌜ Colours (now palette) ⌝ }
+    ensures { λ _. ⌜ Filled (fetched 4 (now (palette .entry)) noMasks (now (line .entry)) (now (columns .entry))) (now (out .entry)) (length (now (columns .entry))) (now (out .exit)) ⌝ }
+{
+    let mut i = 0;
+    while i < columns.len() {
+        let column = columns[i] as usize;
+        out[i] = opaque(palette, sample::stored::half(line, column));
+        i += 1;
+    }
+}
+
+// 8 bits.
+fn eight_bits(palette: &[u32; 256], line: &[u8], columns: &[u32], out: &mut [u32])
+    requires { ⌜ (length (now columns) ≤ length (now out)) × InLine 8 (now line) (now columns) ⌝ }
+    requires { ⌜ Colours (now palette) ⌝ }
+    ensures { λ _. ⌜ Filled (fetched 8 (now (palette .entry)) noMasks (now (line .entry)) (now (columns .entry))) (now (out .entry)) (length (now (columns .entry))) (now (out .exit)) ⌝ }
+{
+    let mut i = 0;
+    while i < columns.len() {
+        let column = columns[i] as usize;
+        out[i] = opaque(palette, words::wide(line[column]));
+        i += 1;
+    }
+}
+
+// 16 bits, by masks.
+fn masked16(t: &[u8; 510], m: Masks, line: &[u8], columns: &[u32], out: &mut [u32])
+    requires { ⌜ (length (now columns) ≤ length (now out)) × InLine 16 (now line) (now columns) ⌝ }
+    requires { ⌜ Widens (now t) × Sampled m ⌝ }
+    ensures { λ _. ⌜ Filled (fetched 16 [] m (now (line .entry)) (now (columns .entry))) (now (out .entry)) (length (now (columns .entry))) (now (out .exit)) ⌝ }
+{
+    let mut i = 0;
+    while i < columns.len() {
+        let column = columns[i] as usize;
+        out[i] = sample::colour::masked(t, m, words::load_u16(line, column * 2));
+        i += 1;
+    }
+}
+
+// 24 bits, by masks.
+fn masked24(t: &[u8; 510], m: Masks, line: &[u8], columns: &[u32], out: &mut [u32])
+    requires { ⌜ (length (now columns) ≤ length (now out)) × InLine 24 (now line) (now columns) ⌝ }
+    requires { ⌜ Widens (now t) × Sampled m ⌝ }
+    ensures { λ _. ⌜ Filled (fetched 24 [] m (now (line .entry)) (now (columns .entry))) (now (out .entry)) (length (now (columns .entry))) (now (out .exit)) ⌝ }
+{
+    let mut i = 0;
+    while i < columns.len() {
+        let column = columns[i] as usize;
+        out[i] = sample::colour::masked(t, m, words::load_u24(line, column * 3));
+        i += 1;
+    }
+}
+
+// 32 bits, by masks.
+fn masked32(t: &[u8; 510], m: Masks, line: &[u8], columns: &[u32], out: &mut [u32])
+    requires { ⌜ (length (now columns) ≤ length (now out)) × InLine 32 (now line) (now columns) ⌝ }
+    requires { ⌜ Widens (now t) × Sampled m ⌝ }
+    ensures { λ _. ⌜ Filled (fetched 32 [] m (now (line .entry)) (now (columns .entry))) (now (out .entry)) (length (now (columns .entry))) (now (out .exit)) ⌝ }
+{
+    let mut i = 0;
+    while i < columns.len() {
+        let column = columns[i] as usize;
+        out[i] = sample::colour::masked(t, m, words::load_u32(line, column * 4));
+        i += 1;
+    }
+}
+
+// A palette's colour with alpha 255.
+fn opaque(palette: &[u32; 256], n: u32) -> u32
+    requires { ⌜ (n < 256) × Colours (now palette) ⌝ }
+    ensures { λ r. ⌜ r ≡ 255 * 2 ^ 24 + getD (now (palette .entry)) n 0 ⌝ }
+{
+    0xFF000000 + palette[n as usize]
+}
