@@ -13,7 +13,7 @@ pub fn put(journal: &mut [u8], i: usize, first: u32, second: u32, third: u32)
     requires { ⌜ (i + 1) * stride ≤ length (now journal) ⌝ }
     ensures { λ _. ⌜ now (journal .exit) ≡ sets (now (journal .entry)) (i * stride) (entryBytes first second third) ⌝ }
 {
-    let at = i * 12;
+    let at = i * STRIDE;
     words::store_u32(journal, at, first);
     words::store_u32(journal, at + 4, second);
     words::store_u32(journal, at + 8, third);
