@@ -1,4 +1,4 @@
-// A row of source pixels, fetched once a row: one loop for each layout, so that nothing is decided at a pixel.
+// A row of source pixels, fetched once a row: one loop for each depth, so that no depth is asked for at a pixel.
 ghost use mathlib.Core.Path.{_≡_};
 ghost use Prim.Native.Nat.{_+_, _*_, _^_, _≤_, _<_};
 ghost use lib.ListN.{length, getD};

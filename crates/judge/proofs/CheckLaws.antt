@@ -15,7 +15,7 @@ use Rattle.emr.proofs.FrameLaws.{Inside, inside}
 use Rattle.judge.specs.declared.Checked.{Checked}
 use Rattle.judge.specs.declared.Checked.the-variants.{Accepted, Refused}
 use Rattle.judge.specs.Operation.{badOperation, badMask}
-use Rattle.judge.specs.Judged.{headerIn, pictureStatus, dibsStatus, badGeometry, callStatus, statusOf, settled, checkOf}
+use Rattle.judge.specs.Judged.{headerIn, pictureStatus, dibsStatus, badGeometry, callStatus, statusOf, settled, checkOf, statusIn}
 
 -- ---- 11, 12, 13
 
@@ -117,3 +117,17 @@ module _ (s : List ℕ) (f : ℕ) (e : f ≡ frameStatus s) where
 
           pub checked-all : c ≡ 0 → Accepted n ≡ checkOf s
           checked-all h = settles 0 (after-dibs ∙ h)
+
+-- ---- the number of an answer
+
+settled-number : (k : ℕ) (n : Numbers) → statusIn (settled k n) ≡ k
+settled-number zero n = refl
+settled-number (suc k) n = refl
+
+-- the enum's case and the order of statuses give the same number
+pub check-number : (s : List ℕ) → statusIn (checkOf s) ≡ statusOf s
+unfolding checkOf
+check-number s = settled-number (statusOf s) (numbersOf s)
+
+pub number-of : (s : List ℕ) (v w : Checked) → v ≡ checkOf s → v ≡ w → (statusIn w ≡ statusIn (checkOf s)) × (statusIn w ≡ statusOf s)
+number-of s v w e q = let c = ap statusIn (sym q ∙ e) in (c, c ∙ check-number s)

@@ -4,7 +4,7 @@ ghost use Prim.Native.Nat.{_+_, _≤_};
 ghost use lib.ListN.{length};
 ghost use Rattle.emr.specs.Numbers.{headerPart};
 ghost use Rattle.emr.specs.Framed.{frameStatus, partsStatus};
-ghost use Rattle.judge.specs.Judged.{headerIn, pictureStatus, dibsStatus, badGeometry, callStatus, statusOf, checkOf};
+ghost use Rattle.judge.specs.Judged.{headerIn, pictureStatus, dibsStatus, badGeometry, callStatus, statusOf, checkOf, statusIn};
 use dib::Header;
 use emr::Numbers;
 use emr::Picture;
@@ -119,4 +119,14 @@ pub fn check(s: &[u8]) -> Checked
         return Checked::Refused(called);
     }
     Checked::Accepted(n)
+}
+
+// Document 01's number for a record: the first of 3 to 13 that applies, or 0.
+pub fn status(s: &[u8]) -> u32
+    ensures { λ r. ⌜ (r ≡ statusIn (checkOf (now (s .entry)))) × (r ≡ statusOf (now (s .entry))) ⌝ }
+{
+    match check(s) {
+        Checked::Accepted(_) => 0,
+        Checked::Refused(k) => k,
+    }
 }

@@ -8,6 +8,7 @@ use Rattle.words.specs.Choice.{pickN}
 use Rattle.pixel.specs.Blend.{pixelOf}
 use Rattle.pixel.specs.Masks.{maskWidth, maskPlace, channelAt}
 use Rattle.pixel.specs.Widen.{widened}
+use Rattle.dib.specs.Header.{hasMasks}
 use Rattle.sample.specs.declared.Masks.{Masks}
 
 -- the channel that a mask picks from n, widened to 8 bits
@@ -18,10 +19,10 @@ channel8 mask n = widened (maskWidth mask) (channelAt (maskWidth mask) (maskPlac
 -- under alpha format 1." "24 bits: blue, green, red." Under BI_BITFIELDS the header's masks.
 abbrev pub masksOf : (bits compression red green blue alpha : ℕ) (format1 : Bool) → Masks
 masksOf bits compression red green blue alpha format1 = record {
-  red = pickN (eqb compression 3) red (pickN (eqb bits 16) 0x7C00 0xFF0000);
-  green = pickN (eqb compression 3) green (pickN (eqb bits 16) 0x03E0 0xFF00);
-  blue = pickN (eqb compression 3) blue (pickN (eqb bits 16) 0x001F 0xFF);
-  alpha = pickN (eqb compression 3) alpha (pickN (format1 && eqb bits 32) 0xFF000000 0);
+  red = pickN (hasMasks compression) red (pickN (eqb bits 16) 0x7C00 0xFF0000);
+  green = pickN (hasMasks compression) green (pickN (eqb bits 16) 0x03E0 0xFF00);
+  blue = pickN (hasMasks compression) blue (pickN (eqb bits 16) 0x001F 0xFF);
+  alpha = pickN (hasMasks compression) alpha (pickN (format1 && eqb bits 32) 0xFF000000 0);
 }
 
 -- masks that a pixel above 8 bits is read with: 1 to 8 ones each, an alpha none or as many

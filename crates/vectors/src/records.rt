@@ -4,7 +4,6 @@
 ghost use Prim.Native.Nat.{_≤_};
 ghost use lib.ListN.{length};
 use crate::line;
-use judge::Checked;
 
 pub fn all() {
     let mut space = io::large_buffer();
@@ -38,7 +37,11 @@ fn entry(s: &[u8]) -> usize
         return 0;
     }
     let should = words::read_u32(s, label);
-    line::number(&s[4..label], status(&s[label + 8..end]), should as u64);
+    line::number(
+        &s[4..label],
+        judge::status(&s[label + 8..end]) as u64,
+        should as u64,
+    );
     end
 }
 
@@ -58,12 +61,4 @@ fn piece_end(s: &[u8], at: usize) -> usize
         return 0;
     }
     at + 4 + long
-}
-
-// 0 for an accepted record.
-fn status(record: &[u8]) -> u64 {
-    match judge::check(record) {
-        Checked::Accepted(_) => 0,
-        Checked::Refused(n) => n as u64,
-    }
 }
