@@ -11,7 +11,7 @@ use borrow.Author.Tests.{lt-ltb, le-ltb, ltb-true, ltb-false, eqb-true, eq-eqb, 
 use Rattle.pixel.specs.Place.{isDepth, rowLength}
 use Rattle.pixel.proofs.PlaceLaws.{on-depth}
 use Rattle.words.proofs.ChoiceLaws.{or-none, or-false, picked-true, picked-false}
-use Rattle.words.specs.Choice.{pickN}
+use Rattle.words.specs.Choice.{pick}
 use Rattle.dib.specs.declared.Header.{Header}
 use Rattle.dib.specs.Header.{rows as rowsOf, tableStart, entries}
 use Rattle.dib.specs.Judged.{badSize, badCompression, badExtent, badColours, badFields, badHeader, bitsNeeded}
@@ -108,25 +108,25 @@ module _ (h : Header) (e : badFields h ≡ false) where
   pub start-behind-masks : h .compression ≡ 3 → h .size ≡ 40 → (52 ≡ tableStart h) × (52 ≤ 108)
   unfolding tableStart
   start-behind-masks p q =
-      (sym (ap₂ (λ (n m : ℕ). n + pickN (eqb m 3 && eqb n 40) 12 0) q p), lit≤ tt)
+      (sym (ap₂ (λ (n m : ℕ). n + pick (eqb m 3 && eqb n 40) 12 0) q p), lit≤ tt)
 
   pub start-long : h .compression ≡ 3 → (h .size ≡ 40 → ⊥) → (h .size ≡ tableStart h) × (h .size ≤ 108)
   unfolding tableStart
   start-long p q = (
-    sym (ap₂ (λ (b c : Bool). h .size + pickN (b && c) 12 0) (eq-eqb (h .compression) 3 p) (ne-eqb (h .size) 40 q) ∙ add-zero (h .size)),
+    sym (ap₂ (λ (b c : Bool). h .size + pick (b && c) 12 0) (eq-eqb (h .compression) 3 p) (ne-eqb (h .size) 40 q) ∙ add-zero (h .size)),
     size-bound h e,
   )
 
   pub start-plain : (h .compression ≡ 3 → ⊥) → (h .size ≡ tableStart h) × (h .size ≤ 108)
   unfolding tableStart
   start-plain p =
-      (sym (ap (λ (b : Bool). h .size + pickN (b && eqb (h .size) 40) 12 0) (ne-eqb (h .compression) 3 p) ∙ add-zero (h .size)), size-bound h e)
+      (sym (ap (λ (b : Bool). h .size + pick (b && eqb (h .size) 40) 12 0) (ne-eqb (h .compression) 3 p) ∙ add-zero (h .size)), size-bound h e)
 
   pub entries-full : h .colours ≡ 0 → h .bits ≤ 8 → (min (2 ^ h .bits) 256 ≡ entries h) × (min (2 ^ h .bits) 256 ≤ 256)
   unfolding entries
   entries-full p q =
       let b : 2 ^ h .bits ≤ 2 ^ 8 = pow-mono q in
-      (omega (arith, picked-true _ (pickN (leb (h .bits) 8) (2 ^ h .bits) 0) (h .colours) (eq-eqb (h .colours) 0 p), picked-true _ (2 ^ h .bits) 0 (le-leb (h .bits) 8 q)), omega arith)
+      (omega (arith, picked-true _ (pick (leb (h .bits) 8) (2 ^ h .bits) 0) (h .colours) (eq-eqb (h .colours) 0 p), picked-true _ (2 ^ h .bits) 0 (le-leb (h .bits) 8 q)), omega arith)
 
   pub entries-none : h .colours ≡ 0 → 8 < h .bits → (0 ≡ entries h) × (0 ≤ 256)
   unfolding entries

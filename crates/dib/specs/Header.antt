@@ -5,7 +5,7 @@ use mathlib.Core.Bool.{Bool, _&&_}
 use mathlib.Core.List.{List}
 use lib.Dec.{eqb, leb}
 use Rattle.words.specs.Bytes.{le16, le32, negative32, magnitude32}
-use Rattle.words.specs.Choice.{pickN}
+use Rattle.words.specs.Choice.{pick}
 use Rattle.dib.specs.declared.Header.{Header}
 
 -- compression 3 is BI_BITFIELDS, 0 BI_RGB
@@ -24,10 +24,10 @@ headerOf h = record {
   bits = le16 h 14;
   compression = le32 h 16;
   colours = le32 h 32;
-  red = pickN (hasMasks (le32 h 16)) (le32 h 40) 0;
-  green = pickN (hasMasks (le32 h 16)) (le32 h 44) 0;
-  blue = pickN (hasMasks (le32 h 16)) (le32 h 48) 0;
-  alpha = pickN (hasMasks (le32 h 16) && eqb (le32 h 0) 108) (le32 h 52) 0;
+  red = pick (hasMasks (le32 h 16)) (le32 h 40) 0;
+  green = pick (hasMasks (le32 h 16)) (le32 h 44) 0;
+  blue = pick (hasMasks (le32 h 16)) (le32 h 48) 0;
+  alpha = pick (hasMasks (le32 h 16) && eqb (le32 h 0) 108) (le32 h 52) 0;
 }
 
 -- "Positive height: the last stored row is the top one."
@@ -39,8 +39,8 @@ rows h = magnitude32 (h .height)
 
 -- "The colour table follows": behind the header, and behind the three masks of a 40-byte header
 unfoldable pub tableStart : Header → ℕ
-tableStart h = h .size + pickN (hasMasks (h .compression) && eqb (h .size) 40) 12 0
+tableStart h = h .size + pick (hasMasks (h .compression) && eqb (h .size) 40) 12 0
 
 -- "At 1, 4, 8 bits it has the colours used, or 2^bits where that is 0. At 16, 24, 32 it has the colours used .."
 unfoldable pub entries : Header → ℕ
-entries h = pickN (eqb (h .colours) 0) (pickN (leb (h .bits) 8) (2 ^ h .bits) 0) (h .colours)
+entries h = pick (eqb (h .colours) 0) (pick (leb (h .bits) 8) (2 ^ h .bits) 0) (h .colours)

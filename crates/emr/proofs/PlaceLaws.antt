@@ -5,9 +5,10 @@ use mathlib.Core.Bool.{Bool, true, false}
 use Prim.Native.Nat.{ℕ, _≤_}
 use lib.Dec.{eqb, lit≤}
 use borrow.Author.Tests.{ne-eqb}
+use Rattle.words.specs.Choice.{pick}
 use Rattle.emr.specs.declared.Places.{Places}
 use Rattle.emr.specs.declared.Numbers.{Numbers}
-use Rattle.emr.specs.Places.{pickPlaces, placesOf}
+use Rattle.emr.specs.Places.{placesOf}
 use Rattle.emr.specs.Numbers.{numbersAt, numbersOf}
 use Rattle.words.specs.Bytes.{le32}
 
@@ -25,7 +26,7 @@ pub record Near (f : Places) : Type 0 where
   pub parts : f .parts ≤ 128
   pub fixed : f .fixed ≤ 128
 
-pick-near : (b : Bool) {f g : Places} → Near f → Near g → Near (pickPlaces b f g)
+pick-near : (b : Bool) {f g : Places} → Near f → Near g → Near (pick b f g)
 pick-near true p q = p
 pick-near false p q = q
 

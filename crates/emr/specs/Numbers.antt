@@ -4,6 +4,7 @@ use mathlib.Core.Bool.{Bool, true, false, not, _&&_}
 use mathlib.Core.List.{List}
 use lib.ListN.{take, drop}
 use lib.Dec.{eqb}
+use Rattle.words.specs.Choice.{pick}
 use Rattle.words.specs.Bytes.{le32}
 use Rattle.emr.specs.declared.Places.{Places}
 use Rattle.emr.specs.declared.Picture.{Picture}
@@ -29,13 +30,9 @@ noPicture = record { x = 0; y = 0; usage = 0; bmi = 0; «bmi_len» = 0; bits = 0
 unfoldable pub absent : Picture → Bool
 absent p = eqb (p .bmi) 0 && eqb (p .«bmi_len») 0 && eqb (p .bits) 0 && eqb (p .«bits_len») 0
 
-abbrev pub pickPicture : Bool → Picture → Picture → Picture
-pickPicture true a b = a
-pickPicture false a b = b
-
 -- a type that has no mask: none
 unfoldable pub maskPictureOf : List ℕ → (mask : ℕ) → Picture
-maskPictureOf s mask = pickPicture (eqb mask 0) noPicture (pictureOf s 100 108 112)
+maskPictureOf s mask = pick (eqb mask 0) noPicture (pictureOf s 100 108 112)
 
 abbrev pub numbersAt : List ℕ → Places → Numbers
 numbersAt s f = record {

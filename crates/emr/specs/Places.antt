@@ -2,11 +2,8 @@
 use Prim.Native.Nat.{ℕ}
 use mathlib.Core.Bool.{Bool, true, false}
 use lib.Dec.{eqb}
+use Rattle.words.specs.Choice.{pick}
 use Rattle.emr.specs.declared.Places.{Places}
-
-abbrev pub pickPlaces : Bool → Places → Places → Places
-pickPlaces true a b = a
-pickPlaces false a b = b
 
 abbrev places : (extent operation corner extentSrc transform usage parts mask fixed : ℕ) → Places
 places extent operation corner extentSrc transform usage parts mask fixed = record {
@@ -25,7 +22,7 @@ places extent operation corner extentSrc transform usage parts mask fixed = reco
 -- cxDest · blend/ROP4/ROP · xSrc · cxSrc · XformSrc · UsageSrc · offBmi .. cbBits · xMask .. · end of fixed part
 unfoldable pub placesOf : (type : ℕ) → Places
 placesOf type =
-    pickPlaces (eqb type 0x72) (places 32 40 44 100 52 80 84 0 108)
-    (pickPlaces (eqb type 0x4E) (places 32 40 44 32 52 80 84 100 128)
-    (pickPlaces (eqb type 0x51) (places 72 68 32 40 0 64 48 0 80)
+    pick (eqb type 0x72) (places 32 40 44 100 52 80 84 0 108)
+    (pick (eqb type 0x4E) (places 32 40 44 32 52 80 84 100 128)
+    (pick (eqb type 0x51) (places 72 68 32 40 0 64 48 0 80)
     (places 0 0 0 0 0 0 0 0 0)))

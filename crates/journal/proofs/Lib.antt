@@ -1,2 +1,5 @@
 pub mod RecordLaws
 pub mod RowLaws
+pub mod RestoreLaws
+pub mod UndoLaws
+pub mod AlikeLaws

@@ -21,3 +21,10 @@ dot width paint x y s = set s (index width x y) (paint (getD s (index width x y)
 unfoldable pub drawn : (width : ℕ) → Paint → List Place → List ℕ → List ℕ
 drawn width paint [] s = s
 drawn width paint (p ∷ ps) s = drawn width paint ps (dot width paint (p .x) (p .y) s)
+
+-- a play as far as surface and journal are concerned: the places that it draws, first to last, what each pixel becomes, and the record's
+-- type
+pub record Work : Type 0 where
+  pub places : List Place
+  pub paint : Paint
+  pub kind : ℕ

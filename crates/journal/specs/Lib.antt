@@ -1,2 +1,4 @@
+pub mod All
 pub mod Drawing
 pub mod Records
+pub mod Restoring

@@ -1,8 +1,8 @@
 -- Document 01, "The journal": its records as numbers and as bytes, and what a play saves. Definitions only.
-use Prim.Native.Nat.{ℕ}
+use Prim.Native.Nat.{ℕ, zero, suc, _+_, _*_}
 use mathlib.Core.List.{List, [], _∷_, _++_}
 use lib.ListN.{getD}
-use Rattle.words.specs.Bytes.{bytes32}
+use Rattle.words.specs.Bytes.{le32, bytes32}
 use Rattle.region.specs.Target.{Place}
 use Rattle.journal.specs.Drawing.{index, Paint, dot}
 
@@ -33,3 +33,12 @@ saved width paint (p ∷ ps) s = entry (p .x) (p .y) (getD s (index width (p .x)
 -- "Closing record: 0xFFFFFFFF, number of pixel records, record type."
 abbrev pub closing : (count kind : ℕ) → Entry
 closing count kind = entry 0xFFFFFFFF count kind
+
+-- record i of a journal's bytes
+abbrev pub entryAt : (journal : List ℕ) (i : ℕ) → Entry
+entryAt j i = entry (le32 j (i * stride)) (le32 j (i * stride + 4)) (le32 j (i * stride + 8))
+
+-- n records of a journal, from record i on
+unfoldable pub entriesAt : (journal : List ℕ) (i n : ℕ) → List Entry
+entriesAt j i zero = []
+entriesAt j i (suc n) = entryAt j i ∷ entriesAt j (suc i) n

@@ -8,7 +8,7 @@ use native.Mathlib.Omega.{arith}
 use lib.Dec.{lit<, ltb}
 use lib.ListN.{length}
 use borrow.Author.Tests.{ltb-false}
-use Rattle.words.specs.Choice.{pickN}
+use Rattle.words.specs.Choice.{pick}
 use Rattle.words.proofs.ChoiceLaws.{given-none, orElse-none, lowest-none, picked-false}
 use Rattle.dib.specs.Header.{headerOf}
 use Rattle.dib.specs.Judged.{badHeader, badMasks, bitsNeeded, dibStatus}

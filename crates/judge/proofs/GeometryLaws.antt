@@ -6,6 +6,7 @@ use Prim.Native.Nat.{ℕ, _+_, _≤_, _<_}
 use native.Mathlib.Omega.{arith}
 use lib.Dec.{eqb, ltb}
 use borrow.Author.Tests.{lt-ltb, le-ltb, ne-eqb}
+use Rattle.words.specs.Choice.{pick}
 use Rattle.words.specs.Bytes.{negative32, magnitude32}
 use Rattle.words.proofs.ChoiceLaws.{or-true, or-false, and-true, and-false}
 use Rattle.pixel.specs.Raster.{needsSource}
@@ -13,7 +14,7 @@ use Rattle.dib.specs.declared.Header.{Header}
 use Rattle.dib.specs.Header.{rows}
 use Rattle.emr.specs.declared.Numbers.{Numbers}
 use Rattle.emr.specs.Numbers.{absent}
-use Rattle.judge.specs.Operation.{pickB, rop, sourceNeeded}
+use Rattle.judge.specs.Operation.{rop, sourceNeeded}
 use Rattle.judge.specs.Geometry.{sticksOut, badTarget, badSigns, badSource, badCorner}
 use Rattle.judge.specs.Judged.{badGeometry}
 
@@ -29,10 +30,10 @@ module _ (x cx n : ℕ) (a : Bool) (e : a ≡ negative32 x) where
   sticks-left t = sym (or-true _ _ (sym e ∙ t))
 
   module _ (m : ℕ) (b : Bool) (p : a ≡ false) (g : m ≡ magnitude32 cx) (h : b ≡ negative32 cx) where
-    by-sign : (t : Bool) → b ≡ t → sticksOut x cx n ≡ pickB t (ltb x m || ltb n x) (ltb n (x + m))
+    by-sign : (t : Bool) → b ≡ t → sticksOut x cx n ≡ pick t (ltb x m || ltb n x) (ltb n (x + m))
     unfolding sticksOut
     by-sign t q =
-        or-false _ _ (sym e ∙ p) (ap₂ (λ (u : Bool) (v : ℕ). pickB u (ltb x v || ltb n x) (ltb n (x + v))) (sym h ∙ q) (sym g))
+        or-false _ _ (sym e ∙ p) (ap₂ (λ (u : Bool) (v : ℕ). pick u (ltb x v || ltb n x) (ltb n (x + v))) (sym h ∙ q) (sym g))
 
     pub sticks-before : b ≡ true → x < m → true ≡ sticksOut x cx n
     sticks-before q l = sym (by-sign true q ∙ or-true _ _ (lt-ltb x m l))

@@ -2,8 +2,8 @@
 use Prim.Native.Nat.{ℕ, _+_}
 use mathlib.Core.Bool.{Bool, not, _&&_, _||_}
 use lib.Dec.{eqb, ltb}
+use Rattle.words.specs.Choice.{pick}
 use Rattle.words.specs.Bytes.{negative32, magnitude32}
-use Rattle.judge.specs.Operation.{pickB}
 
 -- an extent "without sign not 1..most"
 unfoldable pub badSide : (most x : ℕ) → Bool
@@ -15,7 +15,7 @@ far x = ltb 1000000 (magnitude32 x)
 
 -- "A negative extent covers the pixels before its corner: x + cx up to x − 1." Not inside columns 0 .. n - 1:
 unfoldable pub sticksOut : (x cx n : ℕ) → Bool
-sticksOut x cx n = negative32 x || pickB (negative32 cx) (ltb x (magnitude32 cx) || ltb n x) (ltb n (x + magnitude32 cx))
+sticksOut x cx n = negative32 x || pick (negative32 cx) (ltb x (magnitude32 cx) || ltb n x) (ltb n (x + magnitude32 cx))
 
 -- "target extent without sign not 1..4,096"; "the target's corner .. outside ±1,000,000"
 unfoldable pub badTarget : (x y cx cy : ℕ) → Bool

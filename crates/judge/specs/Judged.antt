@@ -2,7 +2,7 @@
 use Prim.Native.Nat.{ℕ, zero, suc}
 use mathlib.Core.Bool.{Bool, not, _&&_, _||_}
 use mathlib.Core.List.{List}
-use Rattle.words.specs.Choice.{pickN, given, orElse, lowest}
+use Rattle.words.specs.Choice.{pick, given, orElse, lowest}
 use Rattle.dib.specs.declared.Header.{Header}
 use Rattle.dib.specs.Header.{headerOf, rows}
 use Rattle.dib.specs.Judged.{dibStatus}
@@ -21,7 +21,7 @@ headerIn s p = headerOf (headerPart s p)
 
 -- 8, 9, 10 of a picture, if it is present
 unfoldable pub pictureStatus : List ℕ → Picture → ℕ
-pictureStatus s p = pickN (absent p) 0 (dibStatus (headerPart s p) (p .«bits_len»))
+pictureStatus s p = pick (absent p) 0 (dibStatus (headerPart s p) (p .«bits_len»))
 
 -- 8, 9, 10 of both: the lowest number that applies to either
 unfoldable pub dibsStatus : List ℕ → Numbers → ℕ

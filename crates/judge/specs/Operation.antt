@@ -2,6 +2,7 @@
 use Prim.Native.Nat.{ℕ, _/_, _%_}
 use mathlib.Core.Bool.{Bool, true, false, not, _&&_, _||_}
 use lib.Dec.{eqb, ltb}
+use Rattle.words.specs.Choice.{pick}
 use Rattle.pixel.specs.Raster.{needsSource}
 use Rattle.dib.specs.declared.Header.{Header}
 
@@ -34,15 +35,11 @@ hasAlpha h = eqb (h .bits) 32 && (eqb (h .compression) 0 || not (eqb (h .alpha) 
 unfoldable pub badBlend : (field : ℕ) → Header → Bool
 badBlend field h = not (eqb (blendOperation field) 0) || ltb 1 (alphaFormat field) || eqb (alphaFormat field) 1 && not (hasAlpha h)
 
-abbrev pub pickB : Bool → Bool → Bool → Bool
-pickB true a b = a
-pickB false a b = b
-
 -- "source needed ..: 0x72 always; MASKBLT if either byte needs it"
 unfoldable pub sourceNeeded : (kind field : ℕ) → Bool
 sourceNeeded kind field =
-    pickB (eqb kind 0x72) true
-    (pickB (eqb kind 0x4E) (needsSource (foreground field) || needsSource (background field)) (needsSource (rop field)))
+    pick (eqb kind 0x72) true
+    (pick (eqb kind 0x4E) (needsSource (foreground field) || needsSource (background field)) (needsSource (rop field)))
 
 -- 11
 unfoldable pub badOperation : (kind field : ℕ) (absent : Bool) → Header → Bool

@@ -5,6 +5,7 @@ use mathlib.Core.List.{List}
 use Prim.Native.Nat.{ℕ, _+_, _≤_, zero-le}
 use native.Mathlib.Omega.{arith}
 use lib.ListN.{length}
+use Rattle.words.specs.Choice.{pick}
 use Rattle.dib.specs.declared.Header.{Header}
 use Rattle.dib.specs.Judged.{badFields, bitsNeeded}
 use Rattle.dib.proofs.JudgeLaws.{passed-fields}
@@ -16,19 +17,19 @@ use Rattle.judge.specs.declared.Checked.the-variants.{Accepted, Refused}
 use Rattle.judge.specs.Judged.{headerIn, checkOf}
 use Rattle.judge.proofs.AcceptedLaws.{Fit, accepted}
 use Rattle.reading.specs.declared.Reading.{Reading}
-use Rattle.reading.specs.Reading.{wanted, emptyReading, fullReading, pickReading, pictureReading, readingIn, readingOf}
+use Rattle.reading.specs.Reading.{wanted, emptyReading, fullReading, pictureReading, readingIn, readingOf}
 
 -- ---- one picture
 
 module _ (s : List ℕ) (p : Picture) (b : Bool) (r : Reading) (e : b ≡ absent p) where
   pub picture-none : b ≡ true → r ≡ emptyReading 0 → r ≡ pictureReading s p
   unfolding pictureReading
-  picture-none t q = q ∙ sym (ap (λ (x : Bool). pickReading x (emptyReading 0) (fullReading p (headerIn s p))) (sym e ∙ t))
+  picture-none t q = q ∙ sym (ap (λ (x : Bool). pick x (emptyReading 0) (fullReading p (headerIn s p))) (sym e ∙ t))
 
   pub picture-full : (h : Header) → b ≡ false → h ≡ headerIn s p → r ≡ fullReading p h → r ≡ pictureReading s p
   unfolding pictureReading
   picture-full h t g q =
-      q ∙ ap (fullReading p) g ∙ sym (ap (λ (x : Bool). pickReading x (emptyReading 0) (fullReading p (headerIn s p))) (sym e ∙ t))
+      q ∙ ap (fullReading p) g ∙ sym (ap (λ (x : Bool). pick x (emptyReading 0) (fullReading p (headerIn s p))) (sym e ∙ t))
 
 -- ---- what a picture's reading asks of an accepted record
 
@@ -72,7 +73,7 @@ picture-within : (s : List ℕ) (p : Picture) → Fit s p → Within (length s) 
 unfolding pictureReading
 picture-within s p f = go (absent p) refl
   where
-    go : (t : Bool) → absent p ≡ t → Within (length s) (pickReading t (emptyReading 0) (fullReading p (headerIn s p)))
+    go : (t : Bool) → absent p ≡ t → Within (length s) (pick t (emptyReading 0) (fullReading p (headerIn s p)))
     go true a = empty-within (length s) 0
     go false a = let d = f .sound a in record { header = f .within .header; view = omega (arith, f .within .bits, d .rows-ok) }
 

@@ -2,24 +2,23 @@
 use Prim.Native.Nat.{ℕ}
 use mathlib.Core.Bool.{Bool, true, false}
 use mathlib.Core.List.{List}
-use lib.ListN.{take, drop, replicate}
-use lib.Dec.{leb}
-use Rattle.words.specs.Choice.{pickN}
+use lib.ListN.{take, drop}
+use Rattle.words.specs.Choice.{pick}
 use Rattle.dib.specs.declared.Header.{Header}
-use Rattle.dib.specs.Header.{headerOf, topDown, rows, tableStart, entries}
+use Rattle.dib.specs.Header.{topDown, rows}
 use Rattle.dib.specs.Judged.{bitsNeeded}
-use Rattle.sample.specs.Palette.{paletteOf}
 use Rattle.emr.specs.declared.Picture.{Picture}
 use Rattle.emr.specs.declared.Numbers.{Numbers}
-use Rattle.emr.specs.Numbers.{absent, pickPicture, headerPart}
+use Rattle.emr.specs.Numbers.{absent}
 use Rattle.judge.specs.declared.Checked.{Checked}
 use Rattle.judge.specs.declared.Checked.the-variants.{Accepted, Refused}
 use Rattle.judge.specs.Judged.{headerIn, checkOf}
+use Rattle.picture.specs.Palette.{black, picturePalette}
 use Rattle.reading.specs.declared.Reading.{Reading}
 
 -- "A reading is asked for source or mask"
 abbrev pub wanted : (mask : Bool) → Numbers → Picture
-wanted mask n = pickPicture mask (n .mask) (n .source)
+wanted mask n = pick mask (n .mask) (n .source)
 
 -- "A refused reading gives its number, an empty header part, an empty view with width and rows 0 in the 1-bit bottom-up layout, and
 -- a black palette." "if that one is absent, or the type has no mask, it answers 0 with the rest as in a refused reading"
@@ -61,12 +60,8 @@ fullReading p h = record {
   alpha = h .alpha;
 }
 
-abbrev pub pickReading : Bool → Reading → Reading → Reading
-pickReading true a b = a
-pickReading false a b = b
-
 unfoldable pub pictureReading : List ℕ → Picture → Reading
-pictureReading s p = pickReading (absent p) (emptyReading 0) (fullReading p (headerIn s p))
+pictureReading s p = pick (absent p) (emptyReading 0) (fullReading p (headerIn s p))
 
 abbrev pub readingIn : List ℕ → (mask : Bool) → Checked → Reading
 readingIn s mask (Accepted n) = pictureReading s (wanted mask n)
@@ -83,21 +78,6 @@ unfoldable pub viewBytes : List ℕ → Reading → List ℕ
 viewBytes s r = take (r .«view_len») (drop (r .«view_at») s)
 
 -- ---- the palette
-
-abbrev pub black : List ℕ
-black = replicate 256 0
-
--- a header part's palette: filled "at 1, 4, 8 bits"; at 16, 24, 32 the table "is skipped"
-unfoldable pub headerPalette : (header : List ℕ) → List ℕ
-headerPalette header =
-    paletteOf (drop (tableStart (headerOf header)) header) (pickN (leb (headerOf header .bits) 8) (entries (headerOf header)) 0)
-
-abbrev pub pickList : Bool → List ℕ → List ℕ → List ℕ
-pickList true a b = a
-pickList false a b = b
-
-unfoldable pub picturePalette : List ℕ → Picture → List ℕ
-picturePalette s p = pickList (absent p) black (headerPalette (headerPart s p))
 
 abbrev pub paletteIn : List ℕ → (mask : Bool) → Checked → List ℕ
 paletteIn s mask (Accepted n) = picturePalette s (wanted mask n)

@@ -3,13 +3,10 @@ ghost use mathlib.Core.Path.{_≡_};
 ghost use mathlib.Core.Bool.{false};
 ghost use Prim.Native.Nat.{_+_, _≤_};
 ghost use lib.ListN.{length, take, drop};
-ghost use Rattle.words.specs.Choice.{pickN};
-ghost use lib.Dec.{leb};
-ghost use Rattle.dib.specs.Header.{headerOf, entries};
-ghost use Rattle.dib.specs.Judged.{badFields, badHeader, bitsNeeded};
-ghost use Rattle.emr.specs.Numbers.{absent, headerPart};
+ghost use Rattle.dib.specs.Judged.{badFields, bitsNeeded};
+ghost use Rattle.emr.specs.Numbers.{absent};
 ghost use Rattle.judge.specs.Judged.{headerIn};
-ghost use Rattle.reading.specs.Reading.{emptyReading, fullReading, pictureReading, readingOf, headerBytes, viewBytes, black as blackOf, headerPalette, picturePalette, readPalette};
+ghost use Rattle.reading.specs.Reading.{emptyReading, fullReading, pictureReading, readingOf, headerBytes, viewBytes, readPalette};
 use dib::Header;
 use emr::Picture;
 use judge::Checked;
@@ -135,55 +132,18 @@ pub fn view_part(s: &[u8], mask: bool) -> &[u8]
 
 // ---- the palette
 
-fn black() -> [u32; 256]
-    ensures { λ r. ⌜ r ≡ blackOf ⌝ }
-{
-    [0u32; 256]
-}
-
-// How many entries the palette shows: none at 16 bits and up.
-fn shown_entries(h: Header) -> usize
-    requires { ⌜ badFields h ≡ false ⌝ }
-    ensures { λ r. ⌜ (r ≡ pickN (leb (h .bits) 8) (entries h) 0) × (r ≤ entries h) × (r ≤ 256) ⌝ }
-{
-    if h.bits <= 8 {
-        return dib::table_entries(h);
-    }
-    0
-}
-
-fn header_palette(header: &[u8]) -> [u32; 256]
-    requires { ⌜ badHeader (length (now header)) (headerOf (now header)) ≡ false ⌝ }
-    ensures { λ r. ⌜ r ≡ headerPalette (now (header .entry)) ⌝ }
-{
-    let h = dib::read(header);
-    let n = shown_entries(h);
-    let from = dib::table_start(h);
-    sample::palette::read(&header[from..], n)
-}
-
-fn picture_palette(s: &[u8], p: Picture) -> [u32; 256]
-    requires { ⌜ (p .bmi + p .«bmi_len» ≤ length (now s)) × (absent p ≡ false → badHeader (length (headerPart (now s) p)) (headerIn (now s) p) ≡ false) ⌝ }
-    ensures { λ r. ⌜ r ≡ picturePalette (now (s .entry)) p ⌝ }
-{
-    if emr::fields::is_absent(p) {
-        return black();
-    }
-    header_palette(judge::header_part(s, p))
-}
-
 // The palette of the source, or of the mask; black where there is none.
 pub fn palette(s: &[u8], mask: bool) -> [u32; 256]
     ensures { λ r. ⌜ r ≡ readPalette (now (s .entry)) mask ⌝ }
 {
     let n = match judge::check(s) {
         Checked::Accepted(n) => n,
-        Checked::Refused(_) => return black(),
+        Checked::Refused(_) => return picture::black(),
     };
     if mask {
         let p = n.mask;
-        return picture_palette(s, p);
+        return picture::palette(s, p);
     }
     let p = n.source;
-    picture_palette(s, p)
+    picture::palette(s, p)
 }

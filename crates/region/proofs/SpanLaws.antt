@@ -6,12 +6,12 @@ use native.Mathlib.Omega.{arith}
 use lib.Dec.{ltb}
 use borrow.Author.Tests.{le-leb, lt-leb}
 use Rattle.words.specs.Bytes.{negative32, magnitude32}
-use Rattle.words.specs.Choice.{pickN}
+use Rattle.words.specs.Choice.{pick}
 use Rattle.words.proofs.ChoiceLaws.{picked-true, picked-false, and-true, and-false}
 use Rattle.region.specs.declared.Axis.{Axis}
 use Rattle.region.specs.declared.Target.{Target}
 use Rattle.region.specs.declared.Rectangle.{Rectangle}
-use Rattle.region.specs.Target.{nowhere, pickTarget, targetOf}
+use Rattle.region.specs.Target.{nowhere, targetOf}
 use Rattle.region.specs.Axis.{cutEdge, cutCorner, meets, targetStart, targetHidden, clipped}
 
 pub edge-in : (r e n : ℕ) → e < 2147483648 → r ≡ min e n → r ≡ cutEdge e n
@@ -50,13 +50,13 @@ module _ (x cx : ℕ) where
 
   pub start-cut : 2147483648 ≤ x → 0 ≡ targetStart x cx
   unfolding targetStart
-  start-cut h = sym (picked-true _ 0 (pickN (negative32 cx) (x - magnitude32 cx) x) (le-leb _ _ h))
+  start-cut h = sym (picked-true _ 0 (pick (negative32 cx) (x - magnitude32 cx) x) (le-leb _ _ h))
 
   abbrev hidden-left : ℕ
-  hidden-left = magnitude32 x + pickN (negative32 cx) (magnitude32 cx) 0
+  hidden-left = magnitude32 x + pick (negative32 cx) (magnitude32 cx) 0
 
   abbrev hidden-right : ℕ
-  hidden-right = pickN (negative32 cx) (magnitude32 cx - x) 0
+  hidden-right = pick (negative32 cx) (magnitude32 cx - x) 0
 
   pub hidden-none : x < 2147483648 → cx < 2147483648 → 0 ≡ targetHidden x cx
   unfolding targetHidden
@@ -100,7 +100,7 @@ module _ (w h : ℕ) (clip bounds : Rectangle) (x y cx cy : ℕ) (a : Bool)
     (ea : a ≡ meets (clip .left) (clip .right) (bounds .left) (bounds .right) w) where
   abbrev both : Bool → Target
   both t =
-      pickTarget t
+      pick t
       (record { columns = clipped (clip .left) (clip .right) x cx w; rows = clipped (clip .top) (clip .bottom) y cy h })
       (record { columns = nowhere; rows = nowhere })
 

@@ -4,16 +4,16 @@ use Prim.Native.Nat.{ℕ, _+_, _-_, min, max}
 use mathlib.Core.Bool.{Bool}
 use lib.Dec.{ltb}
 use Rattle.words.specs.Bytes.{negative32, magnitude32}
-use Rattle.words.specs.Choice.{pickN}
+use Rattle.words.specs.Choice.{pick}
 use Rattle.region.specs.declared.Axis.{Axis}
 
 -- "the clip may be any signed 32-bit numbers and is cut to the sheet": an edge of it, held to 0 .. n
 unfoldable pub cutEdge : (edge n : ℕ) → ℕ
-cutEdge edge n = pickN (negative32 edge) 0 (min edge n)
+cutEdge edge n = pick (negative32 edge) 0 (min edge n)
 
 -- "Bounds (both corners included ..)": the edge behind an included corner, held to 0 .. n
 unfoldable pub cutCorner : (corner n : ℕ) → ℕ
-cutCorner corner n = pickN (negative32 corner) 0 (min (corner + 1) n)
+cutCorner corner n = pick (negative32 corner) 0 (min (corner + 1) n)
 
 -- do Bounds from `low` to `high`, included, meet the cut clip? "inverted Bounds meet nothing"
 unfoldable pub meets : (clipLow clipHigh low high n : ℕ) → Bool
@@ -22,11 +22,11 @@ meets clipLow clipHigh low high n = ltb (max (cutEdge clipLow n) (cutEdge low n)
 -- "A negative extent covers the pixels before its corner: x + cx up to x − 1." The first column covered that is not before column 0,
 -- and how many columns are covered before column 0
 unfoldable pub targetStart : (x cx : ℕ) → ℕ
-targetStart x cx = pickN (negative32 x) 0 (pickN (negative32 cx) (x - magnitude32 cx) x)
+targetStart x cx = pick (negative32 x) 0 (pick (negative32 cx) (x - magnitude32 cx) x)
 
 unfoldable pub targetHidden : (x cx : ℕ) → ℕ
 targetHidden x cx =
-    pickN (negative32 x) (magnitude32 x + pickN (negative32 cx) (magnitude32 cx) 0) (pickN (negative32 cx) (magnitude32 cx - x) 0)
+    pick (negative32 x) (magnitude32 x + pick (negative32 cx) (magnitude32 cx) 0) (pick (negative32 cx) (magnitude32 cx - x) 0)
 
 -- the columns of the target that lie in the cut clip: the first, how many, and the first one's number in the whole target
 unfoldable pub clipped : (clipLow clipHigh x cx n : ℕ) → Axis

@@ -2,6 +2,7 @@
 use Prim.Native.Nat.{ℕ, zero, suc, _*_}
 use mathlib.Core.Bool.{Bool, true, false, _&&_}
 use mathlib.Core.List.{List, [], _∷_, _++_}
+use Rattle.words.specs.Choice.{pick}
 use Rattle.region.specs.declared.Axis.{Axis}
 use Rattle.region.specs.declared.Target.{Target}
 use Rattle.region.specs.declared.Rectangle.{Rectangle}
@@ -25,15 +26,11 @@ block x n y (suc m) = row x n y ++ block x n (suc y) m
 abbrev pub nowhere : Axis
 nowhere = record { at = 0; count = 0; index = 0 }
 
-abbrev pub pickTarget : Bool → Target → Target → Target
-pickTarget true a b = a
-pickTarget false a b = b
-
 -- "If Bounds .. does not meet the cut clip, the play changes no pixel and counts 0. Otherwise it counts every pixel of target and cut
 -- clip."
 unfoldable pub targetOf : (width height : ℕ) (clip bounds : Rectangle) (x y cx cy : ℕ) → Target
 targetOf width height clip bounds x y cx cy =
-    pickTarget (meets (clip .left) (clip .right) (bounds .left) (bounds .right) width
+    pick (meets (clip .left) (clip .right) (bounds .left) (bounds .right) width
     && meets (clip .top) (clip .bottom) (bounds .top) (bounds .bottom) height)
     (record { columns = clipped (clip .left) (clip .right) x cx width; rows = clipped (clip .top) (clip .bottom) y cy height })
     (record { columns = nowhere; rows = nowhere })

@@ -9,7 +9,7 @@ use lib.Count.{ones, onesIn}
 use lib.Dec.{eqb, leb, ltb, lit≤}
 use lib.ListN.{length, length-take, length-drop}
 use borrow.Author.Tests.{eqb-true, leb-true, not-false}
-use Rattle.words.specs.Choice.{pickN}
+use Rattle.words.specs.Choice.{pick}
 use Rattle.words.proofs.ChoiceLaws.{or-none, and-both}
 use Rattle.pixel.specs.Masks.{maskWidth, maskOf, contiguous, isChannel}
 use Rattle.pixel.specs.Place.{rowLength}
@@ -55,7 +55,7 @@ none = lit≤ tt
 run : (w p : ℕ) → 1 ≤ w → w ≤ 8 → Channel (maskOf w p)
 run w p h l = rw (ones-of w p) (h, l)
 
-either : (P : ℕ → Type 0) (t : Bool) {a b : ℕ} → P a → P b → P (pickN t a b)
+either : (P : ℕ → Type 0) (t : Bool) {a b : ℕ} → P a → P b → P (pick t a b)
 either P true p q = p
 either P false p q = q
 

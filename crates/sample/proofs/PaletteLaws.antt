@@ -1,16 +1,17 @@
 -- The palette as the loop fills it: the table's colours over 256 black ones. Assumes nothing.
 use mathlib.Core.Path.{_≡_, refl, sym, ap, _∙_}
 use mathlib.Core.Bool.{Bool, true, false}
-use mathlib.Core.List.{List}
-use Prim.Native.Nat.{ℕ, _*_, _≤_, _<_}
+use mathlib.Core.List.{List, [], _∷_}
+use Prim.Native.Nat.{ℕ, zero, suc, _*_, _^_, _≤_, _<_}
 use native.Mathlib.Nat.{le-trans}
-use lib.Dec.{ltb}
-use lib.ListN.{getD, replicate, length-replicate, getD-replicate}
+use lib.Dec.{lit<, ltb}
+use lib.ListN.{getD, set, replicate, length-replicate, getD-replicate}
 use borrow.Author.Tests.{lt-ltb, ltb-true, ltb-false}
 use Rattle.words.specs.Bytes.{le24}
-use Rattle.words.specs.Choice.{pickN}
+use Rattle.words.specs.Choice.{pick}
 use Rattle.words.specs.Filled.{Filled}
 use Rattle.words.proofs.FillLaws.{filled-all}
+use Rattle.sample.specs.At.{Colours}
 use Rattle.sample.specs.Palette.{entryColour, paletteOf}
 
 abbrev pub black : List ℕ
@@ -18,11 +19,11 @@ black = replicate 256 0
 
 -- the colour that index k shows
 abbrev pub colourAt : (table : List ℕ) (n k : ℕ) → ℕ
-colourAt table n k = pickN (ltb k n) (entryColour table k) 0
+colourAt table n k = pick (ltb k n) (entryColour table k) 0
 
 module _ (table : List ℕ) (n : ℕ) where
-  by-test : {b : Bool} (k : ℕ) → ltb k n ≡ b → pickN b (entryColour table k) 0 ≡ colourAt table n k
-  by-test k e = sym (ap (λ (b : Bool). pickN b (entryColour table k) 0) e)
+  by-test : {b : Bool} (k : ℕ) → ltb k n ≡ b → pick b (entryColour table k) 0 ≡ colourAt table n k
+  by-test k e = sym (ap (λ (b : Bool). pick b (entryColour table k) 0) e)
 
   pub entry-read : (k : ℕ) → k < n → le24 table (k * 4) ≡ colourAt table n k
   unfolding entryColour
@@ -37,3 +38,17 @@ module _ (table : List ℕ) (n : ℕ) where
       at : (k : ℕ) → k < 256 → (b : Bool) → ltb k n ≡ b → getD d k 0 ≡ colourAt table n k
       at k l true e = p .front k (ltb-true k n e)
       at k l false e = p .back k (ltb-false k n e) ∙ getD-replicate {A = ℕ} 256 k 0 0 l ∙ by-test k e
+
+-- ---- every entry is a colour
+
+pub black-colours : (n : ℕ) → Colours (replicate n 0)
+black-colours zero k = lit< tt
+black-colours (suc n) zero = lit< tt
+black-colours (suc n) (suc k) = black-colours n k
+
+pub set-colours : (d : List ℕ) (i v : ℕ) → v < 2 ^ 24 → Colours d → Colours (set d i v)
+set-colours [] i v h c k = lit< tt
+set-colours (x ∷ d) zero v h c zero = h
+set-colours (x ∷ d) zero v h c (suc k) = c (suc k)
+set-colours (x ∷ d) (suc i) v h c zero = c 0
+set-colours (x ∷ d) (suc i) v h c (suc k) = set-colours d i v h (λ m. c (suc m)) k

@@ -18,14 +18,14 @@ black-requires c κs = search needs
 returns : tie.Need-returns
 returns c = search palette-refused
 
-picture-palette-requires : tie.Need-picture-palette-requires
-picture-palette-requires c κs = palette-asked-mask (c .before .before .before .before .before .before .before .args .s .now) (c .before .before .before .before .before .check .result) (c .before .before .before .before .before .check .ensures) (c .before .before .before .n .given .0 .0) (c .before .before .before .n .given .1)
+palette-requires : tie.Need-palette-requires
+palette-requires c κs = palette-asked-mask (c .before .before .before .before .before .before .before .args .s .now) (c .before .before .before .before .before .check .result) (c .before .before .before .before .before .check .ensures) (c .before .before .before .n .given .0 .0) (c .before .before .before .n .given .1)
 
 returns-2 : tie.Need-returns-2
 returns-2 c = search palette-mask
 
-picture-palette-requires-2 : tie.Need-picture-palette-requires-2
-picture-palette-requires-2 c κs = palette-asked-source (c .before .before .before .before .before .before .before .args .s .now) (c .before .before .before .before .before .check .result) (c .before .before .before .before .before .check .ensures) (c .before .before .before .n .given .0 .0) (c .before .before .before .n .given .1)
+palette-requires-2 : tie.Need-palette-requires-2
+palette-requires-2 c κs = palette-asked-source (c .before .before .before .before .before .before .before .args .s .now) (c .before .before .before .before .before .check .result) (c .before .before .before .before .before .check .ensures) (c .before .before .before .n .given .0 .0) (c .before .before .before .n .given .1)
 
 returns-3 : tie.Need-returns-3
 returns-3 c = search palette-source
@@ -39,7 +39,7 @@ palette-spec =
     enum-told
     black-requires
     returns
-    picture-palette-requires
+    palette-requires
     returns-2
-    picture-palette-requires-2
+    palette-requires-2
     returns-3)

@@ -5,18 +5,19 @@ use lib.ListN.{length}
 use denote.Ref.{now}
 use Rattle.words.specs.Filled.{Filled}
 use Rattle.words.proofs.FillLaws.{filled-none, filled-more, filled-to}
-use Rattle.sample.proofs.PaletteLaws.{black, colourAt, entry-read, palette-whole}
+use Rattle.sample.specs.At.{Colours}
+use Rattle.sample.proofs.PaletteLaws.{black, colourAt, entry-read, palette-whole, black-colours, set-colours}
 use Rattle.sample.proofs.palette.read.Statement.{statement}
 use Rattle.sample.proofs.palette.read.Tie as tie
 
 abbrev Inv-loop : tie.InvT-loop
-Inv-loop table n colours₀ k₀ colours k = (k ≤ n) × Filled (colourAt table n) black k colours
+Inv-loop table n colours₀ k₀ colours k = (k ≤ n) × Filled (colourAt table n) black k colours × Colours colours
 
 abbrev μ-loop : tie.MeasureT-loop
 μ-loop table n colours₀ k₀ colours k = n - k
 
 loop-holds : tie.Need-loop-holds Inv-loop μ-loop
-loop-holds c = (omega arith, filled-none _ black)
+loop-holds c = (omega arith, filled-none _ black, black-colours 256)
 
 mul-load-u24 : tie.Need-mul-load-u24 Inv-loop μ-loop
 mul-load-u24 c = omega arith
@@ -45,13 +46,14 @@ loop-again c =
       omega arith,
       filled-more (colourAt (now (a .table)) (a .n)) black (l .k) (l .colours) (c .load-u24 .result) m (l .inv .1)
           (c .load-u24 .ensures .0 ∙ entry-read (now (a .table)) (a .n) (l .k) h),
+      set-colours (l .colours) (l .k) (c .load-u24 .result) (c .load-u24 .ensures .1) (l .inv .2),
     )
 
 returns : tie.Need-returns Inv-loop μ-loop
 returns c =
     let l = c .before .loop in
     let a = c .before .before .before in
-    palette-whole (now (a .args .table)) (a .args .n) (l .colours) (a .pre .0) (filled-to (omega arith) (l .inv .1))
+    (palette-whole (now (a .args .table)) (a .args .n) (l .colours) (a .pre .0) (filled-to (omega arith) (l .inv .1)), l .inv .2)
 
 pub read-spec : {M : Type 1} → statement M
 read-spec =

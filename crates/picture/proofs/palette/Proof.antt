@@ -4,10 +4,10 @@ use lib.ListN.{length}
 use Rattle.dib.specs.Header.{headerOf}
 use Rattle.dib.specs.Judged.{badHeader}
 use mathlib.Core.Path.{ap₂, ap, sym, _∙_}
-use Rattle.reading.proofs.PaletteLaws.{palette-none, palette-full}
+use Rattle.picture.proofs.PaletteLaws.{palette-none, palette-full}
 use borrow.Author.Needs.{needs}
-use Rattle.reading.proofs.picture_palette.Statement.{statement}
-use Rattle.reading.proofs.picture_palette.Tie as tie
+use Rattle.picture.proofs.palette.Statement.{statement}
+use Rattle.picture.proofs.palette.Tie as tie
 
 is-absent-requires : tie.Need-is-absent-requires
 is-absent-requires c κs = search needs
@@ -16,7 +16,7 @@ black-requires : tie.Need-black-requires
 black-requires c κs = search needs
 
 returns : tie.Need-returns
-returns c = search palette-none
+returns c = (search palette-none, c .black .ensures .1)
 
 header-part-requires : tie.Need-header-part-requires
 header-part-requires c κs = search needs
@@ -26,10 +26,10 @@ header-palette-requires c κs =
     ap (λ (l : List ℕ). badHeader (length l) (headerOf l)) (c .header-part .ensures) ∙ c .before .before .before .before .pre .1 (sym (c .before .before .is-absent .ensures) ∙ c .before .if1 .left)
 
 returns-2 : tie.Need-returns-2
-returns-2 c = search palette-full
+returns-2 c = (search palette-full, c .header-palette .ensures .1)
 
-pub picture-palette-spec : {M : Type 1} → statement M
-picture-palette-spec =
+pub palette-spec : {M : Type 1} → statement M
+palette-spec =
     tie.close
     (tie.spec
     is-absent-requires

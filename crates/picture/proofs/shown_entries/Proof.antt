@@ -4,8 +4,8 @@ use Prim.Native.Nat.{zero-le}
 use borrow.Author.Tests.{le-leb, lt-leb}
 use Rattle.words.proofs.ChoiceLaws.{picked-true, picked-false}
 use borrow.Author.Needs.{needs}
-use Rattle.reading.proofs.shown_entries.Statement.{statement}
-use Rattle.reading.proofs.shown_entries.Tie as tie
+use Rattle.picture.proofs.shown_entries.Statement.{statement}
+use Rattle.picture.proofs.shown_entries.Tie as tie
 
 table-entries-requires : tie.Need-table-entries-requires
 table-entries-requires c κs = search needs

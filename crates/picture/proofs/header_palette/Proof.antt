@@ -3,10 +3,10 @@ use native.Mathlib.Omega.{arith}
 use lib.ListN.{length}
 use Rattle.dib.specs.Judged.{badHeader}
 use Rattle.dib.proofs.JudgeLaws.{passed-fields}
-use Rattle.reading.proofs.PaletteLaws.{start-in, table-in, table-palette}
+use Rattle.picture.proofs.PaletteLaws.{start-in, table-in, table-palette}
 use borrow.Author.Needs.{needs}
-use Rattle.reading.proofs.header_palette.Statement.{statement}
-use Rattle.reading.proofs.header_palette.Tie as tie
+use Rattle.picture.proofs.header_palette.Statement.{statement}
+use Rattle.picture.proofs.header_palette.Tie as tie
 
 read-requires : tie.Need-read-requires
 read-requires c κs = search needs
@@ -41,9 +41,11 @@ read-requires-2 c κs =
 
 returns : tie.Need-returns
 returns c =
-    let t = c .before .before .table-start in
-    c .read2 .ensures
-    ∙ table-palette _ (c .before .before .before .before .read .result) (c .before .before .before .before .read .ensures) (c .before .before .before .before .before .before .pre) (c .before .before .before .shown-entries .result) (t .result) (t .ensures .0) (c .before .before .before .shown-entries .ensures .0)
+    let t = c .before .before .table-start in (
+      c .read2 .ensures .0
+          ∙ table-palette _ (c .before .before .before .before .read .result) (c .before .before .before .before .read .ensures) (c .before .before .before .before .before .before .pre) (c .before .before .before .shown-entries .result) (t .result) (t .ensures .0) (c .before .before .before .shown-entries .ensures .0),
+      c .read2 .ensures .1,
+    )
 
 pub header-palette-spec : {M : Type 1} → statement M
 header-palette-spec =

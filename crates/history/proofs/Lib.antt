@@ -1,0 +1,4 @@
+pub mod Kept
+pub mod PlayStep
+pub mod UndoStep
+pub mod Condition3

@@ -1,0 +1,60 @@
+use Prim.Native.Nat.{_-_}
+use native.Mathlib.Omega.{arith}
+use Rattle.journal.proofs.RestoreLaws.{Tested, tested-none, tested-column, tested-row, tested-one, tested-all}
+use Rattle.journal.proofs.any_off.Statement.{statement}
+use Rattle.journal.proofs.any_off.Tie as tie
+
+abbrev Inv-loop : tie.InvT-loop
+Inv-loop journal from n width height end i₀ i = Tested width height journal from n i
+
+abbrev μ-loop : tie.MeasureT-loop
+μ-loop journal from n width height end i₀ i = end - i
+
+add-end : tie.Need-add-end Inv-loop μ-loop
+add-end c = omega arith
+
+loop-holds : tie.Need-loop-holds Inv-loop μ-loop
+loop-holds c = search tested-none
+
+first-requires : tie.Need-first-requires Inv-loop μ-loop
+first-requires c κs = omega arith
+
+returns : tie.Need-returns Inv-loop μ-loop
+returns c = search tested-column
+
+second-requires : tie.Need-second-requires Inv-loop μ-loop
+second-requires c κs = omega arith
+
+returns-2 : tie.Need-returns-2 Inv-loop μ-loop
+returns-2 c = search tested-row
+
+add-i : tie.Need-add-i Inv-loop μ-loop
+add-i c = omega arith
+
+loop-less : tie.Need-loop-less Inv-loop μ-loop
+loop-less c = omega arith
+
+loop-again : tie.Need-loop-again Inv-loop μ-loop
+loop-again c =
+    tested-one _ _ _ _ _ _ _ (c .before .before .before .before .before .loop .inv) (c .before .before .before .before .loop-test .taken)
+    (c .before .before .before .first .ensures) _ (c .before .before .if1 .left) (c .before .second .ensures) (c .if2 .left)
+
+returns-3 : tie.Need-returns-3 Inv-loop μ-loop
+returns-3 c = search tested-all
+
+pub any-off-spec : {M : Type 1} → statement M
+any-off-spec =
+    tie.close
+    (tie.spec
+    Inv-loop
+    μ-loop
+    add-end
+    loop-holds
+    first-requires
+    returns
+    second-requires
+    returns-2
+    add-i
+    loop-less
+    loop-again
+    returns-3)

@@ -1,0 +1,35 @@
+-- What an undo (document 01: a take-back) answers and leaves. Definitions only.
+use Prim.Native.Nat.{ℕ, _+_, _-_}
+use mathlib.Core.Bool.{Bool, not, _||_}
+use mathlib.Core.List.{List}
+use lib.Dec.{eqb, ltb}
+use Rattle.words.specs.Choice.{given, orElse}
+use Rattle.journal.specs.Records.{Entry, entryAt, entriesAt}
+use Rattle.journal.specs.Restoring.{restored, anyOff}
+use Rattle.lent.specs.Lent.{Lent, lent, Outcome, outcome, settle, lentStatus}
+
+-- the last record in use
+abbrev pub last : Lent → Entry
+last m = entryAt (m .journal) (m .used - 1)
+
+-- how many pixel records it names
+abbrev pub named : Lent → ℕ
+named m = last m .second
+
+-- those records
+abbrev pub top : Lent → List Entry
+top m = entriesAt (m .journal) (m .used - 1 - named m) (named m)
+
+-- 16: "last record not a closing one, it names more than stand before it, or one of those lies off the sheet"
+unfoldable pub badTop : (width height : ℕ) → Lent → Bool
+badTop width height m = not (eqb (last m .first) 0xFFFFFFFF) || ltb (m .used - 1) (named m) || anyOff width height (top m)
+
+-- "restores the pixels from last to first, lowers the count past the closing record, leaves the journal's bytes"
+unfoldable pub undone : (width : ℕ) → Lent → Lent
+undone width m = lent (restored width (top m) (m .surface)) (m .journal) (m .used - 1 - named m)
+
+-- 1 and 2, 15: "count in use is 0", 16; "answers 0 with the pixels restored"
+unfoldable pub undoOf : (width height : ℕ) → Lent → Outcome
+undoOf width height m =
+    settle (orElse (lentStatus width height m) (given 15 (eqb (m .used) 0) (given 16 (badTop width height m) 0))) m
+    (outcome 0 (named m) (undone width m))

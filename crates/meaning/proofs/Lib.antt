@@ -1,0 +1,5 @@
+pub mod FillingLaws
+pub mod ColumnLaws
+pub mod RuleLaws
+pub mod FitLaws
+pub mod RowLaws

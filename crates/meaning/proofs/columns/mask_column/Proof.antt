@@ -1,0 +1,28 @@
+use Rattle.pixel.specs.Place.{maskPixel}
+use lib.IntN.{ℤ}
+use mathlib.Core.Path.{ap, _∙_}
+use mir.Facts.{toZ-ofZ}
+use borrow.Author.Needs.{needs}
+use Rattle.meaning.proofs.columns.mask_column.Statement.{statement}
+use Rattle.meaning.proofs.columns.mask_column.Tie as tie
+use Rattle.meaning.proofs.columns.mask_column.Reads as reads
+use Rattle.meaning.proofs.columns.mask_column.Lts as lts
+use Rattle.pixel.proofs.place.mask_pixel.Reads as mask-pixel-reads
+use Rattle.words.proofs.signed.Reads as signed-reads
+
+-- src/columns.rt:63:30
+signed-requires : tie.Need-signed-requires
+signed-requires c κs = search needs
+
+-- src/columns.rt:63:5
+mask-pixel-requires : tie.Need-mask-pixel-requires
+mask-pixel-requires c κs = search needs
+
+-- src/columns.rt:59:1
+returns : tie.Need-returns
+returns c =
+    c .mask-pixel .ensures
+    ∙ ap (λ (z : ℤ). maskPixel z (c .before .before .args .i) (c .before .before .args .extent)) (toZ-ofZ (record { sfits = c .before .signed .ok }) ∙ c .before .signed .ensures)
+
+pub mask-column-spec : {M : Type 1} → statement M
+mask-column-spec = tie.close (tie.spec signed-requires mask-pixel-requires returns)

@@ -1,0 +1,3 @@
+pub mod Sampling
+pub mod Reading
+pub mod Meaning

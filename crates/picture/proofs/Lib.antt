@@ -1,0 +1,2 @@
+pub mod PaletteLaws
+pub mod RowLaws

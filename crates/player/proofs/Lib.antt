@@ -1,0 +1,5 @@
+pub mod UndoLaws
+pub mod WorkLaws
+pub mod DrawLaws
+pub mod TargetLaws
+pub mod PlayLaws

@@ -1,0 +1,155 @@
+-- The ways through `play`, test by test as the code makes them. Assumes nothing.
+use mathlib.Core.Path.{_≡_, refl, sym, ap, ap₂, _∙_, subst}
+use mathlib.Core.Bool.{Bool, true, false, true≢false}
+use mathlib.Core.List.{List, [], _∷_, _++_, append-nil}
+use Prim.Native.Nat.{ℕ, zero, suc, _+_, _-_, _*_, _/_, _≤_, _<_}
+use native.Mathlib.Nat.{mul-comm, mul-le-mul}
+use native.Mathlib.Omega.{arith}
+use lib.ListN.{length}
+use lib.Seq.{sets}
+use lib.Dec.{ltb}
+use borrow.Author.Tests.{lt-ltb, le-ltb}
+use Rattle.words.specs.Choice.{given, orElse}
+use Rattle.words.proofs.ListLaws.{sets-append}
+use Rattle.words.proofs.ChoiceLaws.{picked-true, picked-false}
+use Rattle.emr.specs.declared.Numbers.{Numbers}
+use Rattle.emr.specs.Numbers.{numbersOf}
+use Rattle.judge.specs.declared.Checked.{Checked}
+use Rattle.judge.specs.declared.Checked.the-variants.{Accepted, Refused}
+use Rattle.judge.specs.Judged.{statusOf, settled, checkOf, statusIn}
+use Rattle.judge.proofs.CheckLaws.{check-number}
+use Rattle.judge.proofs.AcceptedLaws.{accepted as accepted-is}
+use Rattle.region.specs.declared.Target.{Target}
+use Rattle.region.specs.declared.Rectangle.{Rectangle}
+use Rattle.region.specs.Target.{placesIn, targetOf}
+use Rattle.region.proofs.TargetLaws.{On, inside, length-places}
+use Rattle.journal.specs.Drawing.{Work, drawn}
+use Rattle.journal.specs.Records.{stride, Entry, entryBytes, bytesOf, saved, closing}
+use Rattle.journal.proofs.RecordLaws.{length-bytes, bytes-append, length-saved}
+use Rattle.lent.specs.Lent.{Lent, lent, Outcome, outcome, settle, limits, records}
+use Rattle.lent.specs.Playing.{counted, drawnBy, appended, played, roomStatus, playOf}
+use Rattle.lent.proofs.LimitLaws.{Passed, passed, area}
+use Rattle.meaning.specs.Meaning.{meaningIn, meaningOf, boundsOf, paintOn, workOf}
+use Rattle.player.specs.declared.Answer.{Answer}
+use Rattle.player.specs.Calls.{playWith, work, play, accepted}
+use Rattle.player.specs.Left.{left, refusal}
+
+-- ---- whatever is drawn
+
+module _ (w : ℕ) (k : Work) (s j : List ℕ) (u p : ℕ) (e : counted k ≡ p) where
+  no-room : length j / stride - u < p + 1 → outcome 14 0 (lent s j u) ≡ accepted w k (lent s j u)
+  unfolding roomStatus
+  no-room l = ap (λ (r : ℕ). settle r (lent s j u) (outcome 0 (counted k) (played w k (lent s j u))))
+      (sym (picked-true (ltb (length j / stride - u) (counted k + 1)) 14 0 (lt-ltb (length j / stride - u) (counted k + 1) (omega (arith, e)))))
+
+  -- the pixels' records, and the closing one behind them
+  journal-is : (j1 j2 : List ℕ) → j1 ≡ sets j (u * stride) (bytesOf (saved w (k .paint) (k .places) s))
+      → j2 ≡ sets j1 ((u + p) * stride) (entryBytes 0xFFFFFFFF p (k .kind)) → j2 ≡ sets j (u * stride) (bytesOf (appended w k s))
+  unfolding appended bytesOf
+  journal-is j1 j2 q r =
+      let b : List ℕ = bytesOf (saved w (k .paint) (k .places) s) in
+      let n : length b ≡ p * stride =
+      length-bytes (saved w (k .paint) (k .places) s) ∙ ap (λ (m : ℕ). m * stride) (length-saved w (k .paint) (k .places) s ∙ e) in
+      r ∙ (λ t. sets (q t) ((u + p) * stride) (entryBytes 0xFFFFFFFF (sym e t) (k .kind)))
+      ∙ sym (sets-append j (u * stride) ((u + p) * stride) b (entryBytes 0xFFFFFFFF (counted k) (k .kind)) (omega (arith, n)))
+      ∙ ap (sets j (u * stride))
+      (ap (λ (l : List ℕ). b ++ l) (sym (append-nil (entryBytes 0xFFFFFFFF (counted k) (k .kind))))
+      ∙ sym (bytes-append (saved w (k .paint) (k .places) s) (closing (counted k) (k .kind) ∷ [])))
+
+  drawn-is : p + 1 ≤ length j / stride - u → (s1 j1 j2 : List ℕ) → s1 ≡ drawnBy w k s
+      → j1 ≡ sets j (u * stride) (bytesOf (saved w (k .paint) (k .places) s)) → j2 ≡ sets j1 ((u + p) * stride) (entryBytes 0xFFFFFFFF p (k .kind))
+      → outcome 0 p (lent s1 j2 (u + p + 1)) ≡ accepted w k (lent s j u)
+  unfolding roomStatus played
+  drawn-is l s1 j1 j2 es ej ek =
+      let n : u + p + 1 ≡ u + (counted k + 1) = omega (arith, e) in
+      (λ t. outcome 0 (sym e t) (lent (es t) (journal-is j1 j2 ej ek t) (n t)))
+      ∙ ap (λ (r : ℕ). settle r (lent s j u) (outcome 0 (counted k) (played w k (lent s j u))))
+      (sym (picked-false (ltb (length j / stride - u) (counted k + 1)) 14 0 (le-ltb (length j / stride - u) (counted k + 1) (omega (arith, e)))))
+
+-- ---- an accepted record
+
+module _ (w h : ℕ) (s j : List ℕ) (u : ℕ) (r : List ℕ) (n : Numbers) (clip : Rectangle) (brush : ℕ) (t : Target)
+    (f : limits w h (length s) (length j) u ≡ 0) (e : t ≡ targetOf w h clip (boundsOf n) (n .x) (n .y) (n .cx) (n .cy)) where
+  limits-passed : Passed w h (length s) (length j) u
+  limits-passed = passed w h (length s) (length j) u f
+
+  pub pixels-few : t .columns .count * t .rows .count ≤ 16777216
+  pixels-few =
+      let on = subst (λ (t : Target). On w (t .columns) × On h (t .rows)) (sym e) (inside w h clip (boundsOf n) (n .x) (n .y) (n .cx) (n .cy)) in
+      let a : t .columns .count ≤ 4096 = omega (arith, on .0 .most, limits-passed .wide .1) in
+      let b : t .rows .count ≤ 4096 = omega (arith, on .1 .most, limits-passed .high .1) in
+      mul-le-mul a b
+
+  abbrev workOn : Target → Work
+  workOn t = record { places = placesIn t; paint = paintOn t (meaningIn r n) brush; kind = n .kind }
+
+  work-is : workOn t ≡ workOf w h (meaningIn r n) clip brush
+  unfolding workOf
+  work-is = ap workOn e
+
+  count-is : counted (workOn t) ≡ t .columns .count * t .rows .count
+  count-is = length-places t ∙ mul-comm (t .rows .count) (t .columns .count)
+
+  pub play-full : (a : Answer) → length j / stride - u < t .columns .count * t .rows .count + 1 → a ≡ refusal 14 u
+      → left a s j ≡ accepted w (workOf w h (meaningIn r n) clip brush) (lent s j u)
+  play-full a l q =
+      ap (λ (a : Answer). left a s j) q ∙ no-room w (workOn t) s j u _ count-is l ∙ ap (λ (k : Work). accepted w k (lent s j u)) work-is
+
+  pub play-drawn : t .columns .count * t .rows .count + 1 ≤ length j / stride - u → (s1 j1 j2 : List ℕ)
+      → s1 ≡ drawn w (paintOn t (meaningIn r n) brush) (placesIn t) s
+      → j1 ≡ sets j (u * stride) (bytesOf (saved w (paintOn t (meaningIn r n) brush) (placesIn t) s))
+      → j2 ≡ sets j1 ((u + t .columns .count * t .rows .count) * stride) (entryBytes 0xFFFFFFFF (t .columns .count * t .rows .count) (n .kind))
+      → outcome 0 (t .columns .count * t .rows .count) (lent s1 j2 (u + t .columns .count * t .rows .count + 1))
+      ≡ accepted w (workOf w h (meaningIn r n) clip brush) (lent s j u)
+  play-drawn l s1 j1 j2 es ej ek =
+      drawn-is w (workOn t) s j u _ count-is l s1 j1 j2 es ej ek ∙ ap (λ (k : Work). accepted w k (lent s j u)) work-is
+
+-- ---- the whole play
+
+abbrev isRefused : Checked → Bool
+isRefused (Accepted n) = false
+isRefused (Refused k) = true
+
+-- a refused record's status is no 0
+refused-some : (k status : ℕ) (n : Numbers) → Refused k ≡ settled status n → (status ≡ k) × (k ≡ 0 → ⊥)
+refused-some k zero n e = absurd (true≢false (ap isRefused e))
+refused-some k (suc status) n e = let q = ap statusIn e in (sym q, λ z. omega (arith, q))
+
+module _ (w h : ℕ) (s j : List ℕ) (u : ℕ) (r : List ℕ) (clip : Rectangle) (brush : ℕ) where
+  -- the play by the statuses of the lent memory and of the record
+  abbrev settledBy : (memory reading : ℕ) → Outcome
+  settledBy memory reading =
+      settle (orElse memory (orElse reading (roomStatus (work w h (playWith r clip brush)) (lent s j u)))) (lent s j u)
+      (outcome 0 (counted (work w h (playWith r clip brush))) (played w (work w h (playWith r clip brush)) (lent s j u)))
+
+  by-memory : (k reading : ℕ) → (k ≡ 0 → ⊥) → outcome k 0 (lent s j u) ≡ settledBy k reading
+  by-memory zero reading z = absurd (z refl)
+  by-memory (suc k) reading z = refl
+
+  by-reading : (k : ℕ) → (k ≡ 0 → ⊥) → outcome k 0 (lent s j u) ≡ settledBy 0 k
+  by-reading zero z = absurd (z refl)
+  by-reading (suc k) z = refl
+
+  play-is : settledBy (limits w h (length s) (length j) u) (statusOf r) ≡ play w h (playWith r clip brush) (lent s j u)
+  unfolding play playOf
+  play-is = refl
+
+  module _ (b : ℕ) (eb : b ≡ limits w h (length s) (length j) u) where
+    pub play-limits : (a : Answer) → (b ≡ 0 → ⊥) → a ≡ refusal b u → left a s j ≡ play w h (playWith r clip brush) (lent s j u)
+    play-limits a z q =
+        ap (λ (a : Answer). left a s j) q ∙ by-memory b (statusOf r) z ∙ ap (λ (k : ℕ). settledBy k (statusOf r)) eb ∙ play-is
+
+    module _ (z : b ≡ 0) (v : Checked) (ev : v ≡ checkOf r) where
+      pub play-refused : (k : ℕ) (a : Answer) → v ≡ Refused k → a ≡ refusal k u → left a s j ≡ play w h (playWith r clip brush) (lent s j u)
+      unfolding checkOf
+      play-refused k a q p =
+          let o = refused-some k (statusOf r) (numbersOf r) (sym q ∙ ev) in
+          ap (λ (a : Answer). left a s j) p ∙ by-reading k (o .1) ∙ ap₂ settledBy (sym z ∙ eb) (sym (o .0)) ∙ play-is
+
+      pub play-accepted : (n : Numbers) (o : Outcome) → v ≡ Accepted n → o ≡ accepted w (workOf w h (meaningIn r n) clip brush) (lent s j u)
+          → o ≡ play w h (playWith r clip brush) (lent s j u)
+      unfolding work meaningOf
+      play-accepted n o q p =
+          let m : n ≡ numbersOf r = accepted-is r n (sym q ∙ ev) .numbers in
+          let x : 0 ≡ statusOf r = ap statusIn (sym q ∙ ev) ∙ check-number r in
+          p ∙ ap (λ (n : Numbers). accepted w (workOf w h (meaningIn r n) clip brush) (lent s j u)) m ∙ ap₂ settledBy (sym z ∙ eb) x ∙ play-is

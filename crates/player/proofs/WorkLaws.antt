@@ -1,0 +1,96 @@
+-- All that the journal's laws ask of a play's work: its places lie on the surface, and it makes 32-bit numbers of 32-bit numbers.
+-- Assumes nothing.
+use mathlib.Core.Bool.{Bool, true, false}
+use mathlib.Core.List.{List, [], _∷_, _++_}
+use Prim.Native.Nat.{ℕ, zero, suc, _+_, _^_, _≤_, _<_}
+use native.Mathlib.Omega.{arith}
+use lib.Dec.{eqb}
+use Rattle.words.specs.Choice.{pick}
+use Rattle.pixel.specs.Round.{cut}
+use Rattle.pixel.specs.Blend.{blend0, blend1, pixelOf, over0, over1}
+use Rattle.pixel.specs.Raster.{rasterPixel}
+use Rattle.pixel.proofs.RasterLaws.{raster-lt}
+use Rattle.region.specs.declared.Target.{Target}
+use Rattle.region.specs.Target.{row, block, placesIn}
+use Rattle.region.proofs.TargetLaws.{On, inside}
+use Rattle.journal.specs.All.{All}
+pub use Rattle.journal.proofs.UndoLaws.{OnSurface}
+use Rattle.journal.proofs.UndoLaws.{Word}
+use Rattle.paint.specs.declared.Rule.{Rule}
+use Rattle.paint.specs.declared.Rule.the-variants.{Blend0, Blend1, Raster, Masked}
+use Rattle.paint.specs.Paints.{paintedBy}
+use Rattle.meaning.specs.Meaning.{Meaning, meaningOf, within, paintOn, targetIn, workOf}
+use Rattle.player.specs.Calls.{Play, work}
+
+-- ---- the places
+
+all-append : {A : Type 0} (P : A → Type 0) (l r : List A) → All P l → All P r → All P (l ++ r)
+all-append P [] r a b = b
+all-append P (x ∷ l) r a b = (a .0, all-append P l r (a .1) b)
+
+row-on : (w h x n y : ℕ) → (1 ≤ n → x + n ≤ w) → y < h → All (OnSurface w h) (row x n y)
+unfolding row
+row-on w h x zero y ends b = tt
+row-on w h x (suc n) y ends b =
+    let e : x + suc n ≤ w = ends (omega arith) in
+    (record { column = omega arith; line = b }, row-on w h (suc x) n y (λ m. omega arith) b)
+
+block-on : (w h x n y m : ℕ) → (1 ≤ n → x + n ≤ w) → (1 ≤ m → y + m ≤ h) → All (OnSurface w h) (block x n y m)
+unfolding block
+block-on w h x n y zero across down = tt
+block-on w h x n y (suc m) across down =
+    let e : y + suc m ≤ h = down (omega arith) in
+    all-append (OnSurface w h) (row x n y) (block x n (suc y) m) (row-on w h x n y across (omega arith))
+    (block-on w h x n (suc y) m across (λ k. omega arith))
+
+target-on : (w h : ℕ) (t : Target) → On w (t .columns) × On h (t .rows) → All (OnSurface w h) (placesIn t)
+target-on w h t on = block-on w h (t .columns .at) (t .columns .count) (t .rows .at) (t .rows .count) (on .0 .ends) (on .1 .ends)
+
+pub places-on : (w h : ℕ) (p : Play) → All (OnSurface w h) (work w h p .places)
+unfolding work workOf
+places-on w h p =
+    let k : Meaning = meaningOf (p .bytes) in
+    target-on w h (targetIn w h k (p .clip)) (inside w h (p .clip) (k .bounds) (k .x) (k .y) (k .cx) (k .cy))
+
+-- ---- the pixels
+
+-- each channel is cut to 255
+cut-word : (a r g b : ℕ) → Word (pixelOf (cut a) (cut r) (cut g) (cut b))
+unfolding cut
+cut-word a r g b = omega arith
+
+over0-word : (s d c : ℕ) → Word (over0 s d c)
+unfolding over0 blend0
+over0-word s d c = cut-word _ _ _ _
+
+over1-word : (s d c : ℕ) → Word (over1 s d c)
+unfolding over1 blend1
+over1-word s d c = cut-word _ _ _ _
+
+-- the old alpha, and 24 bits of colour
+raster-word : (op brush s d : ℕ) → Word d → Word (rasterPixel op brush s d)
+unfolding rasterPixel
+raster-word op brush s d h = omega (arith, raster-lt op brush s d)
+
+either-word : (t : Bool) (a b : ℕ) → Word a → Word b → Word (pick t a b)
+either-word true a b ha hb = ha
+either-word false a b ha hb = hb
+
+painted-word : (rule : Rule) (source bit old : ℕ) → Word old → Word (paintedBy rule source bit old)
+painted-word (Blend0 c) source bit old h = over0-word source old c
+painted-word (Blend1 c) source bit old h = over1-word source old c
+painted-word (Raster op brush) source bit old h = raster-word op brush source old h
+painted-word (Masked foreground background brush) source bit old h =
+    either-word (eqb bit 1) _ _ (raster-word foreground brush source old h) (raster-word background brush source old h)
+
+paint-word : (t : Target) (k : Meaning) (brush old x y : ℕ) → Word old → Word (paintOn t k brush old x y)
+paint-word t k brush old x y h =
+    let i : ℕ = within (t .columns) x in
+    let j : ℕ = within (t .rows) y in
+    painted-word (k .rule brush) (k .source i j) (k .bit i j) old h
+
+pub paints-pixels : (w h : ℕ) (p : Play) (old x y : ℕ) → old < 2 ^ 32 → work w h p .paint old x y < 2 ^ 32
+unfolding work workOf
+paints-pixels w h p =
+    let k : Meaning = meaningOf (p .bytes) in
+    paint-word (targetIn w h k (p .clip)) k (p .brush)

@@ -1,0 +1,144 @@
+// Playing a record, and undoing the last play.
+ghost use mathlib.Core.Path.{_≡_};
+ghost use lib.ListN.{length};
+ghost use Rattle.judge.specs.declared.Checked.the-variants.{Accepted};
+ghost use Rattle.judge.specs.Judged.{checkOf};
+ghost use Rattle.lent.specs.Lent.{lent, limits};
+ghost use Rattle.lent.specs.Undoing.{undoOf};
+ghost use Rattle.meaning.specs.Meaning.{meaningIn, workOf};
+ghost use Rattle.player.specs.Calls.{playWith, play as playing, accepted as acceptedOf};
+ghost use Rattle.player.specs.Left.{left, refusal};
+use emr::Numbers;
+use judge::Checked;
+use region::Rectangle;
+
+mod draw;
+
+// A call's answer: its status, its number of pixels, and the journal's records in use from now on.
+pub struct Answer {
+    pub status: u32,
+    pub pixels: u32,
+    pub used: u64,
+}
+
+// The answer of a refused call.
+fn refused(status: u32, used: u64) -> Answer
+    ensures { λ r. ⌜ r ≡ refusal status used ⌝ }
+{
+    Answer {
+        status: status,
+        pixels: 0,
+        used: used,
+    }
+}
+
+// Plays a record that was accepted, on memory that passed statuses 1 and 2.
+fn accepted(
+    surface: &mut [u32],
+    width: u32,
+    height: u32,
+    journal: &mut [u8],
+    used: u64,
+    s: &[u8],
+    n: Numbers,
+    clip: Rectangle,
+    brush: u32,
+) -> Answer
+    requires { ⌜ (limits width height (length (now surface)) (length (now journal)) used ≡ 0) × (Accepted n ≡ checkOf (now s)) ⌝ }
+    ensures { λ r. ⌜ left r (now (surface .exit)) (now (journal .exit)) ≡ acceptedOf width (workOf width height (meaningIn (now (s .entry)) n) clip brush) (lent (now (surface .entry)) (now (journal .entry)) used) ⌝ }
+{
+    let bounds = Rectangle {
+        left: n.left,
+        top: n.top,
+        right: n.right,
+        bottom: n.bottom,
+    };
+    let t = region::clipped_target(width, height, clip, bounds, n.x, n.y, n.cx, n.cy);
+    let pixels = t.columns.count * t.rows.count;
+    let records = journal.len() / journal::STRIDE;
+    let free = records as u64 - used;
+    if free < pixels + 1 {
+        return refused(14, used);
+    }
+    draw::target(
+        surface,
+        width,
+        height,
+        journal,
+        used as usize,
+        s,
+        n,
+        clip,
+        t,
+        brush,
+    );
+    let closing = (used + pixels) as usize;
+    journal::put(journal, closing, 0xFFFF_FFFF, pixels as u32, n.kind);
+    Answer {
+        status: 0,
+        pixels: pixels as u32,
+        used: used + pixels + 1,
+    }
+}
+
+// Plays record s, cut to the clip, with the brush's low 24 bits. A refused play changes nothing.
+pub fn play(
+    surface: &mut [u32],
+    width: u32,
+    height: u32,
+    journal: &mut [u8],
+    used: u64,
+    s: &[u8],
+    clip: Rectangle,
+    brush: u32,
+) -> Answer
+    ensures { λ r. ⌜ left r (now (surface .exit)) (now (journal .exit)) ≡ playing width height (playWith (now (s .entry)) clip brush) (lent (now (surface .entry)) (now (journal .entry)) used) ⌝ }
+{
+    let status = lent::status(width, height, surface.len(), journal.len(), used);
+    if status != 0 {
+        return refused(status, used);
+    }
+    let n = match judge::check(s) {
+        Checked::Accepted(n) => n,
+        Checked::Refused(k) => return refused(k, used),
+    };
+    accepted(surface, width, height, journal, used, s, n, clip, brush)
+}
+
+// Undoes the last play. All its records are tested before one pixel is restored: a refused undo changes nothing.
+pub fn undo(surface: &mut [u32], width: u32, height: u32, journal: &[u8], used: u64) -> Answer
+    ensures { λ r. ⌜ left r (now (surface .exit)) (now (journal .entry)) ≡ undoOf width height (lent (now (surface .entry)) (now (journal .entry)) used) ⌝ }
+{
+    let status = lent::status(width, height, surface.len(), journal.len(), used);
+    if status != 0 {
+        return refused(status, used);
+    }
+    if used == 0 {
+        return refused(15, used);
+    }
+    let last = used - 1;
+    if journal::first(journal, last as usize) != 0xFFFF_FFFF {
+        return refused(16, used);
+    }
+    let named = journal::second(journal, last as usize);
+    if last < named as u64 {
+        return refused(16, used);
+    }
+    let from = last - named as u64;
+    if journal::any_off(journal, from as usize, named as usize, width, height) {
+        return refused(16, used);
+    }
+    journal::restore(
+        surface,
+        width,
+        height,
+        journal,
+        from as usize,
+        named as usize,
+    );
+    Answer {
+        status: 0,
+        pixels: named,
+        used: from,
+    }
+}
