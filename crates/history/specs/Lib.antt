@@ -1,2 +1,3 @@
 pub mod Pile
 pub mod Lists
+pub mod Run

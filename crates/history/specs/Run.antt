@@ -1,0 +1,86 @@
+-- A list of calls as bytes, and what running it answers and leaves: condition 3 as a promise of running code. Definitions only.
+--
+-- The bytes are 32-bit numbers: how many calls, then the calls, and nothing behind them. A play: 1, left, top, right, bottom, brush, a
+-- number that is not looked at, the record's length, the record, and bytes up to the next multiple of 4. An undo: 2.
+use Prim.Native.Nat.{ℕ, zero, suc, _+_, _*_, _/_}
+use mathlib.Core.Bool.{Bool, not, _&&_}
+use mathlib.Core.List.{List, [], _∷_}
+use lib.ListN.{length, take, drop}
+use lib.Seq.{sets}
+use lib.Dec.{eqb, leb, ltb}
+use Rattle.words.specs.Bytes.{le32}
+use Rattle.words.specs.Choice.{pick, given, orElse}
+use Rattle.region.specs.declared.Rectangle.{Rectangle}
+use Rattle.lent.specs.Lent.{lent, lentStatus, records}
+use Rattle.player.specs.Calls.{playWith}
+use Rattle.history.specs.Pile.{Call, playing, undoing, Answered, pile, surfaceOf, roomOf, pileAnswers, pileAfter}
+use Rattle.history.specs.Lists.{memory}
+
+-- a record's length, up to the next multiple of 4
+abbrev pub padded : ℕ → ℕ
+padded n = (n + 3) / 4 * 4
+
+-- the length of the call at a place of the list, and 0 where none stands there whole
+unfoldable pub callLength : (list : List ℕ) (at : ℕ) → ℕ
+callLength l at =
+    pick (eqb (le32 l at) 1) (pick (leb (at + (32 + padded (le32 l (at + 28)))) (length l)) (32 + padded (le32 l (at + 28))) 0)
+    (pick (eqb (le32 l at) 2 && leb (at + 4) (length l)) 4 0)
+
+abbrev pub clipAt : (list : List ℕ) (at : ℕ) → Rectangle
+clipAt l at = record { left = le32 l (at + 4); top = le32 l (at + 8); right = le32 l (at + 12); bottom = le32 l (at + 16) }
+
+-- the call at a place
+unfoldable pub callAt : (list : List ℕ) (at : ℕ) → Call
+callAt l at =
+    pick (eqb (le32 l at) 1) (playing (playWith (take (le32 l (at + 28)) (drop (at + 32) l)) (clipAt l at) (le32 l (at + 20)))) undoing
+
+-- n calls from a place on, and nothing behind them
+unfoldable pub wellFormed : (list : List ℕ) (at n : ℕ) → Bool
+wellFormed l at zero = eqb at (length l)
+wellFormed l at (suc n) = not (eqb (callLength l at) 0) && wellFormed l (at + callLength l at) n
+
+unfoldable pub callsFrom : (list : List ℕ) (at n : ℕ) → List Call
+callsFrom l at zero = []
+callsFrom l at (suc n) = callAt l at ∷ callsFrom l (at + callLength l at) n
+
+abbrev pub callsIn : (list : List ℕ) → ℕ
+callsIn l = le32 l 0
+
+abbrev pub callsOf : (list : List ℕ) → List Call
+callsOf l = callsFrom l 4 (callsIn l)
+
+-- the answers as numbers, two each
+unfoldable pub numbersOf : List Answered → List ℕ
+numbersOf [] = []
+numbersOf (a ∷ rest) = a .status ∷ a .pixels ∷ numbersOf rest
+
+-- 1 and 2; 29: the list is malformed; 30: the answers exceed the room
+unfoldable pub runStatus : (width height : ℕ) (surface journal list : List ℕ) (room : ℕ) → ℕ
+runStatus width height surface journal l room =
+    orElse (lentStatus width height (lent surface journal 0)) (given 29 (not (wellFormed l 4 (callsIn l))) (given 30 (ltb room (callsIn l * 2)) 0))
+
+-- what a run answers and leaves
+pub record Ran : Type 0 where
+  pub status : ℕ
+  pub calls : ℕ
+  pub used : ℕ
+  pub surface : List ℕ
+  pub journal : List ℕ
+  pub answers : List ℕ
+
+-- a refused run changes nothing; a run answers what the pile answers, and leaves its surface and its room
+abbrev pub settleRun : (status : ℕ) (width height : ℕ) (surface journal list answers : List ℕ) → Ran
+settleRun zero width height surface journal l answers = record {
+  status = 0;
+  calls = callsIn l;
+  used = roomOf width height (pileAfter width height (callsOf l) (pile surface (records (lent surface journal 0)) []));
+  surface = surfaceOf width height (pileAfter width height (callsOf l) (pile surface (records (lent surface journal 0)) []));
+  journal = memory width height (callsOf l) (lent surface journal 0) .journal;
+  answers = sets answers 0 (numbersOf (pileAnswers width height (callsOf l) (pile surface (records (lent surface journal 0)) [])));
+}
+settleRun (suc k) width height surface journal l answers =
+    record { status = suc k; calls = 0; used = 0; surface = surface; journal = journal; answers = answers }
+
+unfoldable pub runOf : (width height : ℕ) (surface journal list answers : List ℕ) → Ran
+runOf width height surface journal l answers =
+    settleRun (runStatus width height surface journal l (length answers)) width height surface journal l answers
