@@ -63,3 +63,11 @@ module _ (b bits : ℕ) (palette : List ℕ) (m : Masks) (line columns : List �
 
   pub in-line : InLine bits line columns → InLine b line columns
   in-line h = subst (λ (n : ℕ). InLine n line columns) e h
+
+-- masks that are known
+pub masks-ext : (m k : Masks) → m .red ≡ k .red → m .green ≡ k .green → m .blue ≡ k .blue → m .alpha ≡ k .alpha → m ≡ k
+masks-ext m k r g b a = λ i. record { red = r i; green = g i; blue = b i; alpha = a i }
+
+pub as-masks : (bits : ℕ) (palette line columns out₀ out : List ℕ) (i : ℕ) {m k : Masks} → m ≡ k
+    → Filled (fetched bits palette k line columns) out₀ i out → Filled (fetched bits palette m line columns) out₀ i out
+as-masks bits palette line columns out₀ out i e f = subst (λ (x : Masks). Filled (fetched bits palette x line columns) out₀ i out) (sym e) f

@@ -1,1 +1,2 @@
+pub mod CommonLaws
 pub mod FetchLaws

@@ -1,4 +1,4 @@
-// A row of source pixels, fetched once a row: one loop for each depth, so that no depth is asked for at a pixel.
+// A row of source pixels, fetched once a row: one loop for each depth and common layout, so that none is asked for at a pixel.
 ghost use mathlib.Core.Path.{_≡_};
 ghost use Prim.Native.Nat.{_+_, _*_, _^_, _≤_, _<_};
 ghost use lib.ListN.{length, getD};
@@ -11,6 +11,8 @@ ghost use Rattle.sample.specs.Colour.{Sampled};
 ghost use Rattle.fetch.specs.Fetched.{fetched, InLine, noMasks};
 ghost use mathlib.Core.List.{[]};
 use sample::Masks;
+
+mod common;
 
 // Fills the front of `out` with the source pixels of `columns`, from the bytes of their row.
 pub fn row(
@@ -39,14 +41,14 @@ pub fn row(
         return;
     }
     if bits == 16 {
-        masked16(t, m, line, columns, out);
+        row16(t, m, line, columns, out);
         return;
     }
     if bits == 24 {
-        masked24(t, m, line, columns, out);
+        row24(t, m, line, columns, out);
         return;
     }
-    masked32(t, m, line, columns, out);
+    row32(t, m, line, columns, out);
 }
 
 // 1 bits.
@@ -91,7 +93,24 @@ fn eight_bits(palette: &[u32; 256], line: &[u8], columns: &[u32], out: &mut [u32
     }
 }
 
-// 16 bits, by masks.
+// 16 bits: the masks choose the loop.
+fn row16(t: &[u8; 510], m: Masks, line: &[u8], columns: &[u32], out: &mut [u32])
+    requires { ⌜ (length (now columns) ≤ length (now out)) × InLine 16 (now line) (now columns) ⌝ }
+    requires { ⌜ Widens (now t) × Sampled m ⌝ }
+    ensures { λ _. ⌜ Filled (fetched 16 [] m (now (line .entry)) (now (columns .entry))) (now (out .entry)) (length (now (columns .entry))) (now (out .exit)) ⌝ }
+{
+    if same(m, common::five()) {
+        common::five16(t, line, columns, out);
+        return;
+    }
+    if same(m, common::six()) {
+        common::six16(t, line, columns, out);
+        return;
+    }
+    masked16(t, m, line, columns, out);
+}
+
+// 16 bits, by any masks.
 fn masked16(t: &[u8; 510], m: Masks, line: &[u8], columns: &[u32], out: &mut [u32])
     requires { ⌜ (length (now columns) ≤ length (now out)) × InLine 16 (now line) (now columns) ⌝ }
     requires { ⌜ Widens (now t) × Sampled m ⌝ }
@@ -105,7 +124,20 @@ fn masked16(t: &[u8; 510], m: Masks, line: &[u8], columns: &[u32], out: &mut [u3
     }
 }
 
-// 24 bits, by masks.
+// 24 bits: the masks choose the loop.
+fn row24(t: &[u8; 510], m: Masks, line: &[u8], columns: &[u32], out: &mut [u32])
+    requires { ⌜ (length (now columns) ≤ length (now out)) × InLine 24 (now line) (now columns) ⌝ }
+    requires { ⌜ Widens (now t) × Sampled m ⌝ }
+    ensures { λ _. ⌜ Filled (fetched 24 [] m (now (line .entry)) (now (columns .entry))) (now (out .entry)) (length (now (columns .entry))) (now (out .exit)) ⌝ }
+{
+    if same(m, common::bytes(0)) {
+        common::opaque24(line, columns, out);
+        return;
+    }
+    masked24(t, m, line, columns, out);
+}
+
+// 24 bits, by any masks.
 fn masked24(t: &[u8; 510], m: Masks, line: &[u8], columns: &[u32], out: &mut [u32])
     requires { ⌜ (length (now columns) ≤ length (now out)) × InLine 24 (now line) (now columns) ⌝ }
     requires { ⌜ Widens (now t) × Sampled m ⌝ }
@@ -119,7 +151,24 @@ fn masked24(t: &[u8; 510], m: Masks, line: &[u8], columns: &[u32], out: &mut [u3
     }
 }
 
-// 32 bits, by masks.
+// 32 bits: the masks choose the loop.
+fn row32(t: &[u8; 510], m: Masks, line: &[u8], columns: &[u32], out: &mut [u32])
+    requires { ⌜ (length (now columns) ≤ length (now out)) × InLine 32 (now line) (now columns) ⌝ }
+    requires { ⌜ Widens (now t) × Sampled m ⌝ }
+    ensures { λ _. ⌜ Filled (fetched 32 [] m (now (line .entry)) (now (columns .entry))) (now (out .entry)) (length (now (columns .entry))) (now (out .exit)) ⌝ }
+{
+    if same(m, common::bytes(0)) {
+        common::opaque32(line, columns, out);
+        return;
+    }
+    if same(m, common::bytes(0xFF000000)) {
+        common::whole32(line, columns, out);
+        return;
+    }
+    masked32(t, m, line, columns, out);
+}
+
+// 32 bits, by any masks.
 fn masked32(t: &[u8; 510], m: Masks, line: &[u8], columns: &[u32], out: &mut [u32])
     requires { ⌜ (length (now columns) ≤ length (now out)) × InLine 32 (now line) (now columns) ⌝ }
     requires { ⌜ Widens (now t) × Sampled m ⌝ }
@@ -139,4 +188,18 @@ fn opaque(palette: &[u32; 256], n: u32) -> u32
     ensures { λ r. ⌜ r ≡ 255 * 2 ^ 24 + getD (now (palette .entry)) n 0 ⌝ }
 {
     0xFF000000 + palette[n as usize]
+}
+
+// Are the masks the same?
+fn same(m: Masks, k: Masks) -> bool
+    ensures { λ r. ⌜ (r ≡ true → m ≡ k) ⌝ }
+{
+    if m.red == k.red {
+        if m.green == k.green {
+            if m.blue == k.blue {
+                return m.alpha == k.alpha;
+            }
+        }
+    }
+    false
 }

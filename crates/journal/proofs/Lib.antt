@@ -3,3 +3,4 @@ pub mod RowLaws
 pub mod RestoreLaws
 pub mod UndoLaws
 pub mod AlikeLaws
+pub mod PointwiseLaws

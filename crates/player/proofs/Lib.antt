@@ -1,5 +1,4 @@
 pub mod UndoLaws
 pub mod WorkLaws
-pub mod DrawLaws
-pub mod TargetLaws
 pub mod PlayLaws
+pub mod PixelLaws

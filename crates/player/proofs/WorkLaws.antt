@@ -1,7 +1,6 @@
 -- All that the journal's laws ask of a play's work: its places lie on the surface, and it makes 32-bit numbers of 32-bit numbers.
 -- Assumes nothing.
 use mathlib.Core.Bool.{Bool, true, false}
-use mathlib.Core.List.{List, [], _∷_, _++_}
 use Prim.Native.Nat.{ℕ, zero, suc, _+_, _^_, _≤_, _<_}
 use native.Mathlib.Omega.{arith}
 use lib.Dec.{eqb}
@@ -16,6 +15,7 @@ use Rattle.region.proofs.TargetLaws.{On, inside}
 use Rattle.journal.specs.All.{All}
 pub use Rattle.journal.proofs.UndoLaws.{OnSurface}
 use Rattle.journal.proofs.UndoLaws.{Word}
+use Rattle.journal.proofs.PointwiseLaws.{all-append}
 use Rattle.paint.specs.declared.Rule.{Rule}
 use Rattle.paint.specs.declared.Rule.the-variants.{Blend0, Blend1, Raster, Masked}
 use Rattle.paint.specs.Paints.{paintedBy}
@@ -23,10 +23,6 @@ use Rattle.meaning.specs.Meaning.{Meaning, meaningOf, within, paintOn, targetIn
 use Rattle.player.specs.Calls.{Play, work}
 
 -- ---- the places
-
-all-append : {A : Type 0} (P : A → Type 0) (l r : List A) → All P l → All P r → All P (l ++ r)
-all-append P [] r a b = b
-all-append P (x ∷ l) r a b = (a .0, all-append P l r (a .1) b)
 
 row-on : (w h x n y : ℕ) → (1 ≤ n → x + n ≤ w) → y < h → All (OnSurface w h) (row x n y)
 unfolding row

@@ -1,3 +1,3 @@
 pub mod Left
-pub mod Ready
 pub mod Calls
+pub mod Pixels

@@ -12,8 +12,6 @@ use emr::Numbers;
 use judge::Checked;
 use region::Rectangle;
 
-mod draw;
-
 // A call's answer: its status, its number of pixels, and the journal's records in use from now on.
 pub struct Answer {
     pub status: u32,
@@ -60,7 +58,7 @@ fn accepted(
     if free < pixels + 1 {
         return refused(14, used);
     }
-    draw::target(
+    draw::clipped(
         surface,
         width,
         height,

@@ -45,14 +45,14 @@ module _ (h : Header) (bytes : List ℕ) (long m k : ℕ) (e : long ≡ rowLengt
 
 -- ---- the masks
 
-abbrev Channel : ℕ → Type 0
+abbrev pub Channel : ℕ → Type 0
 Channel m = (1 ≤ maskWidth m) × (maskWidth m ≤ 8)
 
-none : maskWidth 0 ≤ 8
+pub none : maskWidth 0 ≤ 8
 unfolding ones onesIn
 none = lit≤ tt
 
-run : (w p : ℕ) → 1 ≤ w → w ≤ 8 → Channel (maskOf w p)
+pub run : (w p : ℕ) → 1 ≤ w → w ≤ 8 → Channel (maskOf w p)
 run w p h l = rw (ones-of w p) (h, l)
 
 either : (P : ℕ → Type 0) (t : Bool) {a b : ℕ} → P a → P b → P (pick t a b)
@@ -86,7 +86,7 @@ module _ (bits : ℕ) where
       record { red = channel red (g .0); green = channel green (g .1); blue = channel blue (b .1); alpha = alpha-channel alpha (a .1) }
 
   -- BI_RGB
-  fixed : (red green blue alpha : ℕ) (format1 : Bool) → Sampled (masksOf bits 0 red green blue alpha format1)
+  pub fixed : (red green blue alpha : ℕ) (format1 : Bool) → Sampled (masksOf bits 0 red green blue alpha format1)
   unfolding maskOf
   fixed red green blue alpha format1 =
       let five : (p : ℕ) → Channel (maskOf 5 p) = λ p. run 5 p (lit≤ tt) (lit≤ tt) in

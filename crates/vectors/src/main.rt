@@ -3,6 +3,7 @@
 // tools/vector_records.py writes both files.
 mod line;
 mod numbers;
+mod plays;
 mod records;
 
 fn main() {
@@ -16,5 +17,10 @@ fn main() {
     numbers::mask_places();
     numbers::channel_masks();
     numbers::halves();
+    plays::whole();
+    plays::refused();
+    plays::blends();
+    plays::masked();
+    plays::stretches();
     records::all();
 }

@@ -39,28 +39,28 @@ returns-3 : tie.Need-returns-3
 unfolding fetched shown stored
 returns-3 c = let a = c .before .before .before .before .before .before .before .before .before .before .args in as-depth 8 (a .bits) (a .palette .now) (a .m) (a .line .now) (a .columns .now) (c .before .before .before .before .if3 .taken) _ _ _ (c .before .before .eight-bits .ensures)
 
-masked16-requires : tie.Need-masked16-requires
-masked16-requires c κs = ((c .before .before .before .before .before .before .before .before .pre .0 .1, in-line 16 _ (c .before .before .before .before .before .before .before .before .args .palette .now) (c .before .before .before .before .before .before .before .before .args .m) (c .before .before .before .before .before .before .before .before .args .line .now) (c .before .before .before .before .before .before .before .before .args .columns .now) (c .before .if4 .taken) (c .before .before .before .before .before .before .before .before .pre .0 .2)), (c .before .before .before .before .before .before .before .before .pre .1 .0, c .before .before .before .before .before .before .before .before .pre .1 .2 (omega arith)))
+row16-requires : tie.Need-row16-requires
+row16-requires c κs = ((c .before .before .before .before .before .before .before .before .pre .0 .1, in-line 16 _ (c .before .before .before .before .before .before .before .before .args .palette .now) (c .before .before .before .before .before .before .before .before .args .m) (c .before .before .before .before .before .before .before .before .args .line .now) (c .before .before .before .before .before .before .before .before .args .columns .now) (c .before .if4 .taken) (c .before .before .before .before .before .before .before .before .pre .0 .2)), (c .before .before .before .before .before .before .before .before .pre .1 .0, c .before .before .before .before .before .before .before .before .pre .1 .2 (omega arith)))
 
 same-length-4 : tie.Need-same-length-4
 same-length-4 c = search needs
 
 returns-4 : tie.Need-returns-4
 unfolding fetched shown stored
-returns-4 c = let a = c .before .before .before .before .before .before .before .before .before .before .before .args in as-depth 16 (a .bits) (a .palette .now) (a .m) (a .line .now) (a .columns .now) (c .before .before .before .before .if4 .taken) _ _ _ (c .before .before .masked16 .ensures)
+returns-4 c = let a = c .before .before .before .before .before .before .before .before .before .before .before .args in as-depth 16 (a .bits) (a .palette .now) (a .m) (a .line .now) (a .columns .now) (c .before .before .before .before .if4 .taken) _ _ _ (c .before .before .row16 .ensures)
 
-masked24-requires : tie.Need-masked24-requires
-masked24-requires c κs = ((c .before .before .before .before .before .before .before .before .before .pre .0 .1, in-line 24 _ (c .before .before .before .before .before .before .before .before .before .args .palette .now) (c .before .before .before .before .before .before .before .before .before .args .m) (c .before .before .before .before .before .before .before .before .before .args .line .now) (c .before .before .before .before .before .before .before .before .before .args .columns .now) (c .before .if5 .taken) (c .before .before .before .before .before .before .before .before .before .pre .0 .2)), (c .before .before .before .before .before .before .before .before .before .pre .1 .0, c .before .before .before .before .before .before .before .before .before .pre .1 .2 (omega arith)))
+row24-requires : tie.Need-row24-requires
+row24-requires c κs = ((c .before .before .before .before .before .before .before .before .before .pre .0 .1, in-line 24 _ (c .before .before .before .before .before .before .before .before .before .args .palette .now) (c .before .before .before .before .before .before .before .before .before .args .m) (c .before .before .before .before .before .before .before .before .before .args .line .now) (c .before .before .before .before .before .before .before .before .before .args .columns .now) (c .before .if5 .taken) (c .before .before .before .before .before .before .before .before .before .pre .0 .2)), (c .before .before .before .before .before .before .before .before .before .pre .1 .0, c .before .before .before .before .before .before .before .before .before .pre .1 .2 (omega arith)))
 
 same-length-5 : tie.Need-same-length-5
 same-length-5 c = search needs
 
 returns-5 : tie.Need-returns-5
 unfolding fetched shown stored
-returns-5 c = let a = c .before .before .before .before .before .before .before .before .before .before .before .before .args in as-depth 24 (a .bits) (a .palette .now) (a .m) (a .line .now) (a .columns .now) (c .before .before .before .before .if5 .taken) _ _ _ (c .before .before .masked24 .ensures)
+returns-5 c = let a = c .before .before .before .before .before .before .before .before .before .before .before .before .args in as-depth 24 (a .bits) (a .palette .now) (a .m) (a .line .now) (a .columns .now) (c .before .before .before .before .if5 .taken) _ _ _ (c .before .before .row24 .ensures)
 
-masked32-requires : tie.Need-masked32-requires
-masked32-requires c κs =
+row32-requires : tie.Need-row32-requires
+row32-requires c κs =
     let a = c .before .before .before .before .before .before .before .before .before in
     let e : a .args .bits ≡ 32 = search last-depth in
     ((a .pre .0 .1, in-line 32 _ (a .args .palette .now) (a .args .m) (a .args .line .now) (a .args .columns .now) e (a .pre .0 .2)), (a .pre .1 .0, a .pre .1 .2 (omega arith)))
@@ -73,7 +73,7 @@ unfolding fetched shown stored
 returns-6 c =
     let a = c .before .before .before .before .before .before .before .before .before .before .before .before .args in
     let e : a .bits ≡ 32 = search last-depth in
-    as-depth 32 (a .bits) (a .palette .now) (a .m) (a .line .now) (a .columns .now) e _ _ _ (c .before .before .masked32 .ensures)
+    as-depth 32 (a .bits) (a .palette .now) (a .m) (a .line .now) (a .columns .now) e _ _ _ (c .before .before .row32 .ensures)
 
 pub row-spec : {M : Type 1} → statement M
 row-spec =
@@ -88,12 +88,12 @@ row-spec =
     eight-bits-requires
     same-length-3
     returns-3
-    masked16-requires
+    row16-requires
     same-length-4
     returns-4
-    masked24-requires
+    row24-requires
     same-length-5
     returns-5
-    masked32-requires
+    row32-requires
     same-length-6
     returns-6)

@@ -9,7 +9,6 @@ use Rattle.player.proofs.accepted.Tie as tie
 use Rattle.player.proofs.accepted.Reads as reads
 use Rattle.player.proofs.accepted.Lts as lts
 use Rattle.journal.proofs.put.Reads as put-reads
-use Rattle.player.proofs.draw.target.Reads as target-reads
 use Rattle.player.proofs.refused.Reads as refused-reads
 use Rattle.region.proofs.clipped_target.Reads as clipped-target-reads
 
@@ -46,8 +45,8 @@ returns c =
     play-full (a .args .width) (a .args .height) (now (a .args .surface)) (now (a .args .journal)) (a .args .used) (now (a .args .s)) (a .args .n) (a .args .clip) (a .args .brush) _ (a .pre .0) (c .before .before .before .clipped-target .ensures) (c .refused .result) (c .before .if1 .taken) (c .refused .ensures)
 
 -- src/lib.rt:63:5
-target-requires : tie.Need-target-requires
-target-requires c κs =
+clipped-requires : tie.Need-clipped-requires
+clipped-requires c κs =
     let a = c .before .before .before .before .before .before .before .before in
     let p = passed (a .args .width) (a .args .height) (length (now (a .args .surface))) (length (now (a .args .journal))) (a .args .used) (a .pre .0) in
     ((a .pre .1, c .before .before .before .before .clipped-target .ensures), (p .wide .1, p .pixels-are, omega (arith, p .enough, c .before .before .if1 .left)))
@@ -101,7 +100,7 @@ same-length-2 c = search needs
 returns-2 : tie.Need-returns-2
 returns-2 c =
     let a = c .before .before .before .before .before .before .before .before .before .before .before .before .before .before .before .before .before in
-    play-drawn (a .args .width) (a .args .height) (now (a .args .surface)) (now (a .args .journal)) (a .args .used) (now (a .args .s)) (a .args .n) (a .args .clip) (a .args .brush) _ (a .pre .0) (c .before .before .before .before .before .before .before .before .before .before .before .before .before .clipped-target .ensures) (c .before .before .before .before .before .before .before .before .before .before .before .if1 .left) _ _ _ (c .before .before .before .before .before .before .before .before .target .ensures .0) (c .before .before .before .before .before .before .before .before .target .ensures .1) (c .before .before .put .ensures)
+    play-drawn (a .args .width) (a .args .height) (now (a .args .surface)) (now (a .args .journal)) (a .args .used) (now (a .args .s)) (a .args .n) (a .args .clip) (a .args .brush) _ (a .pre .0) (c .before .before .before .before .before .before .before .before .before .before .before .before .before .clipped-target .ensures) (c .before .before .before .before .before .before .before .before .before .before .before .if1 .left) _ _ _ (c .before .before .before .before .before .before .before .before .clipped .ensures .0) (c .before .before .before .before .before .before .before .before .clipped .ensures .1) (c .before .before .put .ensures)
 
 pub accepted-spec : {M : Type 1} → statement M
 accepted-spec =
@@ -113,7 +112,7 @@ accepted-spec =
     add-if1
     refused-requires
     returns
-    target-requires
+    clipped-requires
     add-closing
     cast-put
     put-requires

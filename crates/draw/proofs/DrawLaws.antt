@@ -32,7 +32,7 @@ use Rattle.meaning.specs.Meaning.{ruleOf, meaningIn, paintOn}
 use Rattle.meaning.specs.Reading.{InPicture}
 use Rattle.meaning.proofs.FitLaws.{source-fits, column-inside}
 use Rattle.meaning.proofs.RowLaws.{mask-wide}
-use Rattle.player.specs.Ready.{Mapped}
+use Rattle.draw.specs.Ready.{Mapped}
 
 -- what holds where a picture is present holds of an absent one
 pub absent-none : {P : Type 0} (b x : Bool) → b ≡ x → b ≡ true → x ≡ false → P

@@ -1,5 +1,5 @@
 use Prim.Native.Nat.{_+_, _≤_, _<_}
-use Rattle.player.proofs.DrawLaws.{columns-inside, spots-inside}
+use Rattle.draw.proofs.DrawLaws.{columns-inside, spots-inside}
 use Rattle.meaning.proofs.RowLaws.{plan-masks}
 use Rattle.meaning.proofs.FitLaws.{extents}
 use Rattle.meaning.specs.declared.Plan.{Plan}
@@ -13,11 +13,11 @@ use lib.ListN.{length}
 use denote.Ref.{now}
 use Rattle.journal.proofs.RowLaws.{Rows, rows-begin, rows-end}
 use Rattle.meaning.specs.Meaning.{meaningIn, paintOn}
-use Rattle.player.proofs.DrawLaws.{rows-more, colours-are, bits-are, row-inside, records-inside}
-use Rattle.player.proofs.draw.rows.Statement.{statement}
-use Rattle.player.proofs.draw.rows.Tie as tie
-use Rattle.player.proofs.draw.rows.Reads as reads
-use Rattle.player.proofs.draw.rows.Lts as lts
+use Rattle.draw.proofs.DrawLaws.{rows-more, colours-are, bits-are, row-inside, records-inside}
+use Rattle.draw.proofs.rows.Statement.{statement}
+use Rattle.draw.proofs.rows.Tie as tie
+use Rattle.draw.proofs.rows.Reads as reads
+use Rattle.draw.proofs.rows.Lts as lts
 use Rattle.meaning.proofs.rows.of_mask.Reads as of-mask-reads
 use Rattle.meaning.proofs.rows.of_source.Reads as of-source-reads
 use Rattle.meaning.proofs.rule.Reads as rule-reads

@@ -1,14 +1,14 @@
-use Rattle.player.proofs.DrawLaws.{absent-none}
+use Rattle.draw.proofs.DrawLaws.{absent-none}
 use Rattle.meaning.proofs.RowLaws.{mask-wide}
 use Rattle.meaning.proofs.FitLaws.{extents}
 use denote.Ref.{now}
 use mathlib.Core.Path.{refl, sym, _∙_}
 use native.Mathlib.Omega.{arith}
 use borrow.Author.Needs.{needs}
-use Rattle.player.proofs.draw.mask_columns.Statement.{statement}
-use Rattle.player.proofs.draw.mask_columns.Tie as tie
-use Rattle.player.proofs.draw.mask_columns.Reads as reads
-use Rattle.player.proofs.draw.mask_columns.Lts as lts
+use Rattle.draw.proofs.mask_columns.Statement.{statement}
+use Rattle.draw.proofs.mask_columns.Tie as tie
+use Rattle.draw.proofs.mask_columns.Reads as reads
+use Rattle.draw.proofs.mask_columns.Lts as lts
 use Rattle.emr.proofs.fields.is_absent.Reads as is-absent-reads
 use Rattle.meaning.proofs.columns.of_mask.Reads as of-mask-reads
 

@@ -19,7 +19,7 @@ ghost use Rattle.journal.specs.Records.{stride, bytesOf, saved};
 ghost use Rattle.meaning.specs.Sampling.{sourceColumn};
 ghost use Rattle.meaning.specs.Reading.{planOf};
 ghost use Rattle.meaning.specs.Meaning.{meaningIn, boundsOf, paintOn};
-ghost use Rattle.player.specs.Ready.{Lies, Mapped};
+ghost use Rattle.draw.specs.Ready.{Lies, Mapped};
 use emr::Numbers;
 use meaning::Plan;
 use region::Rectangle;
@@ -116,7 +116,7 @@ fn rows(
 }
 
 // Draws the clipped target of an accepted record, and saves its pixels from record `at` on.
-pub fn target(
+pub fn clipped(
     surface: &mut [u32],
     width: u32,
     height: u32,

@@ -1,13 +1,13 @@
-use Rattle.player.proofs.DrawLaws.{absent-none}
+use Rattle.draw.proofs.DrawLaws.{absent-none}
 use Rattle.meaning.proofs.FitLaws.{extents, source-fits}
 use denote.Ref.{now}
 use mathlib.Core.Path.{refl, sym, _∙_}
 use native.Mathlib.Omega.{arith}
 use borrow.Author.Needs.{needs}
-use Rattle.player.proofs.draw.source_columns.Statement.{statement}
-use Rattle.player.proofs.draw.source_columns.Tie as tie
-use Rattle.player.proofs.draw.source_columns.Reads as reads
-use Rattle.player.proofs.draw.source_columns.Lts as lts
+use Rattle.draw.proofs.source_columns.Statement.{statement}
+use Rattle.draw.proofs.source_columns.Tie as tie
+use Rattle.draw.proofs.source_columns.Reads as reads
+use Rattle.draw.proofs.source_columns.Lts as lts
 use Rattle.emr.proofs.fields.is_absent.Reads as is-absent-reads
 use Rattle.meaning.proofs.columns.of_source.Reads as of-source-reads
 

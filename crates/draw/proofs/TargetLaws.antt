@@ -19,7 +19,7 @@ use Rattle.journal.specs.Drawing.{Paint, drawn}
 use Rattle.journal.specs.Records.{stride, bytesOf, saved}
 use Rattle.meaning.specs.Sampling.{sourceColumn}
 use Rattle.meaning.specs.Meaning.{boundsOf}
-use Rattle.player.specs.Ready.{Lies, Mapped}
+use Rattle.draw.specs.Ready.{Lies, Mapped}
 
 -- a target without columns draws nothing
 module _ (w : ℕ) (f : Paint) (t : Target) (e : t .columns .count ≡ 0) (s : List ℕ) where

@@ -1,0 +1,60 @@
+// The C entry points: include/lacrumont.h documents them. They take every input.
+ghost use mathlib.Core.Path.{_≡_};
+ghost use Rattle.region.specs.declared.Rectangle.{Rectangle as Clip};
+ghost use Rattle.lent.specs.Lent.{lent, outcome};
+ghost use Rattle.lent.specs.Undoing.{undoOf};
+ghost use Rattle.player.specs.Calls.{playWith, play as playing};
+use region::Rectangle;
+
+// Plays record s onto the surface. `used` is the journal's records in use, before and after; `pixels` gets the number drawn.
+#[no_mangle]
+pub extern "C" fn lacrumont_play(
+    surface: &mut [u32],
+    width: u32,
+    height: u32,
+    journal: &mut [u8],
+    used: &mut u64,
+    s: &[u8],
+    left: u32,
+    top: u32,
+    right: u32,
+    bottom: u32,
+    brush: u32,
+    pixels: &mut u32,
+) -> u32
+    ensures { λ r. ⌜ outcome r (now (pixels .exit)) (lent (now (surface .exit)) (now (journal .exit)) (now (used .exit)))
+        ≡ playing width height (playWith (now (s .entry)) (record { left = left; top = top; right = right; bottom = bottom }) brush)
+        (lent (now (surface .entry)) (now (journal .entry)) (now (used .entry))) ⌝ }
+{
+    let clip = Rectangle {
+        left,
+        top,
+        right,
+        bottom,
+    };
+    let before = *used;
+    let a = player::play(surface, width, height, journal, before, s, clip, brush);
+    *used = a.used;
+    *pixels = a.pixels;
+    a.status
+}
+
+// Undoes the last play in the journal. `used` and `pixels` as above.
+#[no_mangle]
+pub extern "C" fn lacrumont_undo(
+    surface: &mut [u32],
+    width: u32,
+    height: u32,
+    journal: &[u8],
+    used: &mut u64,
+    pixels: &mut u32,
+) -> u32
+    ensures { λ r. ⌜ outcome r (now (pixels .exit)) (lent (now (surface .exit)) (now (journal .entry)) (now (used .exit)))
+        ≡ undoOf width height (lent (now (surface .entry)) (now (journal .entry)) (now (used .entry))) ⌝ }
+{
+    let before = *used;
+    let a = player::undo(surface, width, height, journal, before);
+    *used = a.used;
+    *pixels = a.pixels;
+    a.status
+}

@@ -1,0 +1,46 @@
+-- Condition 2 pixel by pixel. Assumes nothing.
+use mathlib.Core.Path.{_≡_, sym, ap, ap₂, _∙_, subst}
+use mathlib.Core.List.{List}
+use Prim.Native.Nat.{ℕ, _+_, _-_, _*_, _≤_, _<_}
+use native.Mathlib.Nat.{mul-comm, mul-le-mul-right}
+use native.Mathlib.Omega.{arith}
+use lib.ListN.{length, getD}
+use Rattle.region.specs.declared.Target.{Target}
+use Rattle.region.specs.Target.{placesIn}
+use Rattle.region.proofs.TargetLaws.{On, inside, length-places}
+use Rattle.journal.specs.Drawing.{index, Paint, drawn}
+use Rattle.journal.proofs.PointwiseLaws.{drawn-inside, drawn-outside, saved-before}
+use Rattle.meaning.specs.Meaning.{Meaning, meaningOf, paintOn, targetIn, workOf}
+use Rattle.player.specs.Calls.{Play, work}
+use Rattle.player.specs.Pixels.{Covers, pixel, Pixels, PixelByPixel}
+
+-- a target on the surface, drawn by any rule
+module _ (w h : ℕ) (f : Paint) (t : Target) (on : On w (t .columns) × On h (t .rows)) (s : List ℕ) where
+  covered : length s ≡ w * h → (x y : ℕ) → Covers t x y → pixel w (drawn w f (placesIn t) s) x y ≡ f (pixel w s x y) x y
+  covered e x y c =
+      let a : t .columns .at + (x - t .columns .at) ≡ x = omega (arith, c .left) in
+      let b : t .rows .at + (y - t .rows .at) ≡ y = omega (arith, c .top) in
+      let m : (t .rows .at + t .rows .count) * w ≤ h * w = mul-le-mul-right w (on .1 .ends (omega (arith, c .top, c .bottom))) in
+      subst (λ (y : ℕ). pixel w (drawn w f (placesIn t) s) x y ≡ f (pixel w s x y) x y) b
+      (subst (λ (x : ℕ). pixel w (drawn w f (placesIn t) s) x (t .rows .at + (y - t .rows .at)) ≡ f (pixel w s x (t .rows .at + (y - t .rows .at))) x (t .rows .at + (y - t .rows .at))) a
+      (drawn-inside w f (t .columns .at) (t .columns .count) (t .rows .at) (t .rows .count) (x - t .columns .at) (y - t .rows .at) s
+      (omega (arith, c .left, c .right)) (omega (arith, c .top, c .bottom)) (on .0 .ends (omega (arith, c .left, c .right))) (omega (arith, m, e, mul-comm h w))))
+
+  not-covered : (x y : ℕ) → x < w → (Covers t x y → ⊥) → pixel w (drawn w f (placesIn t) s) x y ≡ pixel w s x y
+  not-covered x y l g =
+      drawn-outside w f x y l (t .columns .at) (t .columns .count) (t .rows .at) (t .rows .count) s (on .0 .ends)
+      (λ a b c d. g (record { left = c; right = d; top = a; bottom = b }))
+
+pub pixel-by-pixel : PixelByPixel
+unfolding work workOf
+pixel-by-pixel w h p s e =
+    let k : Meaning = meaningOf (p .bytes) in
+    let t : Target = targetIn w h k (p .clip) in
+    let on : On w (t .columns) × On h (t .rows) = inside w h (p .clip) (k .bounds) (k .x) (k .y) (k .cx) (k .cy) in
+    let f : Paint = paintOn t k (p .brush) in
+    record {
+      inside = covered w h f t on s e;
+      outside = not-covered w h f t on s;
+      records = saved-before w f (t .columns .at) (t .columns .count) (t .rows .at) (t .rows .count) s (on .0 .ends);
+      count = length-places t;
+    }

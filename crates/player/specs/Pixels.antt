@@ -1,0 +1,44 @@
+-- Condition 2 pixel by pixel, for the reader: what follows from the definition of a play drawn. Definitions, and the claim.
+use mathlib.Core.Path.{_≡_}
+use Prim.Native.Nat.{ℕ, _+_, _*_, _≤_, _<_}
+use mathlib.Core.List.{List, map}
+use lib.ListN.{length, getD}
+use Rattle.region.specs.declared.Target.{Target}
+use Rattle.region.specs.Target.{Place}
+use Rattle.journal.specs.Drawing.{index}
+use Rattle.journal.specs.Records.{entry, saved}
+use Rattle.lent.specs.Playing.{counted, drawnBy}
+use Rattle.paint.specs.Paints.{paintedBy}
+use Rattle.meaning.specs.Meaning.{Meaning, meaningOf, within, targetIn}
+use Rattle.player.specs.Calls.{Play, work}
+
+-- column x and row y lie in the clipped target
+pub record Covers (t : Target) (x y : ℕ) : Type 0 where
+  pub left : t .columns .at ≤ x
+  pub right : x < t .columns .at + t .columns .count
+  pub top : t .rows .at ≤ y
+  pub bottom : y < t .rows .at + t .rows .count
+
+-- the pixel at column x and row y of a surface of this width
+abbrev pub pixel : (width : ℕ) → List ℕ → (x y : ℕ) → ℕ
+pixel width s x y = getD s (index width x y) 0
+
+-- the play p on the surface s, whose record means k and whose clipped target is t
+pub record Pixels (width height : ℕ) (p : Play) (s : List ℕ) (k : Meaning) (t : Target) : Type 0 where
+  -- "each pixel of its clipped target becomes the number the published equations or raster operation define": of the OLD pixel, and of
+  -- the source pixel and mask bit of its column and row in the whole target
+  pub inside : (x y : ℕ) → Covers t x y
+      → pixel width (drawnBy width (work width height p) s) x y
+      ≡ paintedBy (k .rule (p .brush)) (k .source (within (t .columns) x) (within (t .rows) y)) (k .bit (within (t .columns) x) (within (t .rows) y)) (pixel width s x y)
+  -- "changes no other"
+  pub outside : (x y : ℕ) → x < width → (Covers t x y → ⊥) → pixel width (drawnBy width (work width height p) s) x y ≡ pixel width s x y
+  -- each journal record holds the pixel of the surface before the play
+  pub records : saved width (work width height p .paint) (work width height p .places) s
+      ≡ map (λ (q : Place). entry (q .x) (q .y) (pixel width s (q .x) (q .y))) (work width height p .places)
+  -- "answers how many there were"
+  pub count : counted (work width height p) ≡ t .rows .count * t .columns .count
+
+abbrev pub PixelByPixel : Type 0
+PixelByPixel =
+    (width height : ℕ) (p : Play) (s : List ℕ) → length s ≡ width * height
+    → Pixels width height p s (meaningOf (p .bytes)) (targetIn width height (meaningOf (p .bytes)) (p .clip))

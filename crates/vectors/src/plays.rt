@@ -1,0 +1,226 @@
+// Whole plays: that of document 01, and one of each type whose pixels are worked out by hand.
+ghost use Prim.Native.Nat.{_+_, _≤_, _<_};
+ghost use lib.ListN.{length};
+use crate::line;
+use region::Rectangle;
+
+fn everywhere() -> Rectangle {
+    Rectangle {
+        left: 0,
+        top: 0,
+        right: 100,
+        bottom: 100,
+    }
+}
+
+// The common fields of a record on row 0: type, Size, Bounds over columns 0 to 9.
+fn begin(r: &mut [u8], kind: u32, size: u32)
+    requires { ⌜ 80 ≤ length (now r) ⌝ }
+{
+    words::store_u32(r, 0, kind);
+    words::store_u32(r, 4, size);
+    words::store_u32(r, 16, 9);
+}
+
+// A 40-byte header of one row at `at`.
+fn header(r: &mut [u8], at: usize, width: u32, bits: u32)
+    requires { ⌜ (at < 4096) × (at + 40 ≤ length (now r)) × (bits < 64) ⌝ }
+{
+    words::store_u32(r, at, 40);
+    words::store_u32(r, at + 4, width);
+    words::store_u32(r, at + 8, 1);
+    words::store_u32(r, at + 12, 1 + bits * 65536);
+}
+
+// A picture's four: a header part of so many bytes at `bmi`, four bytes of pixels behind it.
+fn parts(r: &mut [u8], at: usize, bmi: u32, long: u32, bits: u32)
+    requires { ⌜ (at < 4096) × (at + 16 ≤ length (now r)) × (bmi < 4096) × (long < 4096) ⌝ }
+{
+    words::store_u32(r, at, bmi);
+    words::store_u32(r, at + 4, long);
+    words::store_u32(r, at + 8, bmi + long);
+    words::store_u32(r, at + 12, bits);
+}
+
+// The record of document 01's whole play: type 0x51, ROP 0x00F00021, no source, target (0, 0) 2 by 1.
+fn whole_record() -> [u8; 80] {
+    let mut r = [0u8; 80];
+    begin(&mut r, 0x51, 80);
+    words::store_u32(&mut r, 16, 1);
+    words::store_u32(&mut r, 68, 0x00F00021);
+    words::store_u32(&mut r, 72, 2);
+    words::store_u32(&mut r, 76, 1);
+    r
+}
+
+// Document 01: "A 36-byte journal takes it".
+pub fn whole() {
+    let r = whole_record();
+    let mut surface = [0xFF000000u32, 0xFF0000FFu32];
+    let mut journal = [0xA5u8; 36];
+    let a = player::play(
+        &mut surface,
+        2,
+        1,
+        &mut journal,
+        0,
+        &r,
+        everywhere(),
+        0x112233,
+    );
+    line::number(b"whole play, 36 bytes: status", a.status as u64, 0);
+    line::number(b"whole play: pixels", a.pixels as u64, 2);
+    line::number(b"whole play: count in use", a.used, 3);
+    line::pixel(b"whole play: pixel 0", surface[0], 0xFF112233);
+    line::pixel(b"whole play: pixel 1", surface[1], 0xFF112233);
+    journal_record(b"whole play: record 0", &journal, 0, 0, 0, 0xFF000000);
+    journal_record(b"whole play: record 1", &journal, 12, 1, 0, 0xFF0000FF);
+    journal_record(
+        b"whole play: closing record",
+        &journal,
+        24,
+        0xFFFFFFFF,
+        2,
+        0x51,
+    );
+    let b = player::undo(&mut surface, 2, 1, &journal, a.used);
+    line::number(b"undone: status", b.status as u64, 0);
+    line::number(b"undone: pixels", b.pixels as u64, 2);
+    line::number(b"undone: count in use", b.used, 0);
+    line::pixel(b"undone: pixel 0", surface[0], 0xFF000000);
+    line::pixel(b"undone: pixel 1", surface[1], 0xFF0000FF);
+}
+
+fn journal_record(label: &[u8], journal: &[u8], at: usize, x: u32, y: u32, old: u32)
+    requires { ⌜ at < 4096 ⌝ }
+{
+    line::pixel(label, words::read_u32(journal, at), x);
+    line::pixel(label, words::read_u32(journal, at + 4), y);
+    line::pixel(label, words::read_u32(journal, at + 8), old);
+}
+
+// "24 gives 14, 35 gives 2": nothing is drawn.
+pub fn refused() {
+    let r = whole_record();
+    let mut surface = [0xFF000000u32, 0xFF0000FFu32];
+    let mut short = [0u8; 24];
+    let a = player::play(
+        &mut surface,
+        2,
+        1,
+        &mut short,
+        0,
+        &r,
+        everywhere(),
+        0x112233,
+    );
+    line::number(b"whole play, 24 bytes: status", a.status as u64, 14);
+    line::number(b"whole play, 24 bytes: pixels", a.pixels as u64, 0);
+    let mut odd = [0u8; 35];
+    let b = player::play(&mut surface, 2, 1, &mut odd, 0, &r, everywhere(), 0x112233);
+    line::number(b"whole play, 35 bytes: status", b.status as u64, 2);
+    line::pixel(b"refused: pixel 0", surface[0], 0xFF000000);
+    line::pixel(b"refused: pixel 1", surface[1], 0xFF0000FF);
+}
+
+// Plays on a surface of one row and shows its pixels.
+fn shown(label: &[u8], r: &[u8], surface: &mut [u32; 3], first: u32, second: u32, third: u32) {
+    let mut journal = [0u8; 48];
+    let a = player::play(surface, 3, 1, &mut journal, 0, r, everywhere(), 0x112233);
+    line::number(label, a.status as u64, 0);
+    line::pixel(label, surface[0], first);
+    line::pixel(label, surface[1], second);
+    line::pixel(label, surface[2], third);
+}
+
+// 0x72 with a source of one 32-bit pixel, on column 1.
+fn blend(label: &[u8], field: u32, source: u32, old: u32, new: u32) {
+    let mut r = [0u8; 152];
+    begin(&mut r, 0x72, 152);
+    words::store_u32(&mut r, 24, 1);
+    words::store_u32(&mut r, 32, 1);
+    words::store_u32(&mut r, 36, 1);
+    words::store_u32(&mut r, 40, field);
+    words::store_u32(&mut r, 52, 0x3F800000);
+    words::store_u32(&mut r, 64, 0x3F800000);
+    parts(&mut r, 84, 108, 40, 4);
+    words::store_u32(&mut r, 100, 1);
+    words::store_u32(&mut r, 104, 1);
+    header(&mut r, 108, 1, 32);
+    words::store_u32(&mut r, 148, source);
+    let mut surface = [old; 3];
+    shown(label, &r, &mut surface, old, new, old);
+}
+
+// Format 0: s 200, d 100, c 128 gives 150. Format 1: s 100, a 128, c 255, d 200 gives 200; its alpha, 128 over 200, gives 228.
+pub fn blends() {
+    blend(
+        b"0x72, format 0",
+        0x00800000,
+        0x00C8C8C8,
+        0xFF646464,
+        0xFF969696,
+    );
+    blend(
+        b"0x72, format 1",
+        0x01FF0000,
+        0x80646464,
+        0xC8C8C8C8,
+        0xE4C8C8C8,
+    );
+}
+
+// 0x4E without a source: the brush where the mask's bit is 1, the target kept where it is 0. The mask is 8 wide and holds
+// 00000101; xMask -3 makes column 0 read column 5 (document 01's check number), so that columns 0 to 2 read 1, 0, 1.
+pub fn masked() {
+    let mut r = [0u8; 180];
+    begin(&mut r, 0x4E, 180);
+    words::store_u32(&mut r, 32, 3);
+    words::store_u32(&mut r, 36, 1);
+    words::store_u32(&mut r, 40, 0xF0AA0000);
+    words::store_u32(&mut r, 52, 0x3F800000);
+    words::store_u32(&mut r, 64, 0x3F800000);
+    words::store_u32(&mut r, 100, 0xFFFFFFFD);
+    parts(&mut r, 112, 128, 48, 4);
+    header(&mut r, 128, 8, 1);
+    words::store_u32(&mut r, 176, 5);
+    let mut surface = [0xFF000000u32, 0x800000FFu32, 0x00FFFFFFu32];
+    shown(
+        b"0x4E, 0xF0 over 0xAA",
+        &r,
+        &mut surface,
+        0xFF112233,
+        0x800000FF,
+        0x00112233,
+    );
+}
+
+// 0x51 with a source of two 24-bit pixels, 0x0A0B0C and 0x010203, on three columns: n 2, m 3 reads 0, 0, 1; mirrored 1, 1, 0.
+fn stretched(label: &[u8], x: u32, cx: u32, first: u32, second: u32, third: u32) {
+    let mut r = [0u8; 128];
+    begin(&mut r, 0x51, 128);
+    words::store_u32(&mut r, 24, x);
+    words::store_u32(&mut r, 40, 2);
+    words::store_u32(&mut r, 44, 1);
+    parts(&mut r, 48, 80, 40, 8);
+    words::store_u32(&mut r, 68, 0x00CC0020);
+    words::store_u32(&mut r, 72, cx);
+    words::store_u32(&mut r, 76, 1);
+    header(&mut r, 80, 2, 24);
+    words::store_u32(&mut r, 120, 0x030A0B0C);
+    words::store_u32(&mut r, 124, 0x00000102);
+    let mut surface = [0xFF000000u32, 0x80FFFFFFu32, 0x00FFFFFFu32];
+    shown(label, &r, &mut surface, first, second, third);
+}
+
+pub fn stretches() {
+    stretched(b"0x51, 2 to 3", 0, 3, 0xFF0A0B0C, 0x800A0B0C, 0x00010203);
+    stretched(
+        b"0x51, 2 to 3, mirrored",
+        3,
+        0xFFFFFFFD,
+        0xFF010203,
+        0x80010203,
+        0x000A0B0C,
+    );
+}
