@@ -552,8 +552,11 @@ NUMBERS = [
     ("undone: pixel 0", "0xff000000"),
     ("undone: pixel 1", "0xff0000ff"),
     ("whole play, 24 bytes: status", "14"),
-    ("whole play, 24 bytes: pixels", "0"),
+    ("refused: pixels", "0"),
+    ("refused: pixel 0", "0xff000000"),
+    ("refused: pixel 1", "0xff0000ff"),
     ("whole play, 35 bytes: status", "2"),
+    ("refused: pixels", "0"),
     ("refused: pixel 0", "0xff000000"),
     ("refused: pixel 1", "0xff0000ff"),
     # a play of each type on a row of three pixels

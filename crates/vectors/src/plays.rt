@@ -53,42 +53,53 @@ fn whole_record() -> [u8; 80] {
     r
 }
 
+// The pixel at a place; 0 past the end.
+fn pixel_at(surface: &[u32], i: usize) -> u32 {
+    if i < surface.len() {
+        return surface[i];
+    }
+    0
+}
+
 // Document 01: "A 36-byte journal takes it".
 pub fn whole() {
     let r = whole_record();
     let mut surface = [0xFF000000u32, 0xFF0000FFu32];
     let mut journal = [0xA5u8; 36];
-    let a = player::play(
-        &mut surface,
-        2,
-        1,
-        &mut journal,
-        0,
-        &r,
-        everywhere(),
-        0x112233,
-    );
+    taken(&r, &mut surface, &mut journal);
+}
+
+fn taken(r: &[u8], surface: &mut [u32], journal: &mut [u8]) {
+    let a = player::play(surface, 2, 1, journal, 0, r, everywhere(), 0x112233);
     line::number(b"whole play, 36 bytes: status", a.status as u64, 0);
     line::number(b"whole play: pixels", a.pixels as u64, 2);
     line::number(b"whole play: count in use", a.used, 3);
-    line::pixel(b"whole play: pixel 0", surface[0], 0xFF112233);
-    line::pixel(b"whole play: pixel 1", surface[1], 0xFF112233);
-    journal_record(b"whole play: record 0", &journal, 0, 0, 0, 0xFF000000);
-    journal_record(b"whole play: record 1", &journal, 12, 1, 0, 0xFF0000FF);
+    played(surface, journal);
+    undone(surface, journal, a.used);
+}
+
+fn played(surface: &[u32], journal: &[u8]) {
+    line::pixel(b"whole play: pixel 0", pixel_at(surface, 0), 0xFF112233);
+    line::pixel(b"whole play: pixel 1", pixel_at(surface, 1), 0xFF112233);
+    journal_record(b"whole play: record 0", journal, 0, 0, 0, 0xFF000000);
+    journal_record(b"whole play: record 1", journal, 12, 1, 0, 0xFF0000FF);
     journal_record(
         b"whole play: closing record",
-        &journal,
+        journal,
         24,
         0xFFFFFFFF,
         2,
         0x51,
     );
-    let b = player::undo(&mut surface, 2, 1, &journal, a.used);
+}
+
+fn undone(surface: &mut [u32], journal: &[u8], used: u64) {
+    let b = player::undo(surface, 2, 1, journal, used);
     line::number(b"undone: status", b.status as u64, 0);
     line::number(b"undone: pixels", b.pixels as u64, 2);
     line::number(b"undone: count in use", b.used, 0);
-    line::pixel(b"undone: pixel 0", surface[0], 0xFF000000);
-    line::pixel(b"undone: pixel 1", surface[1], 0xFF0000FF);
+    line::pixel(b"undone: pixel 0", pixel_at(surface, 0), 0xFF000000);
+    line::pixel(b"undone: pixel 1", pixel_at(surface, 1), 0xFF0000FF);
 }
 
 fn journal_record(label: &[u8], journal: &[u8], at: usize, x: u32, y: u32, old: u32)
@@ -102,23 +113,17 @@ fn journal_record(label: &[u8], journal: &[u8], at: usize, x: u32, y: u32, old: 
 // "24 gives 14, 35 gives 2": nothing is drawn.
 pub fn refused() {
     let r = whole_record();
-    let mut surface = [0xFF000000u32, 0xFF0000FFu32];
     let mut short = [0u8; 24];
-    let a = player::play(
-        &mut surface,
-        2,
-        1,
-        &mut short,
-        0,
-        &r,
-        everywhere(),
-        0x112233,
-    );
-    line::number(b"whole play, 24 bytes: status", a.status as u64, 14);
-    line::number(b"whole play, 24 bytes: pixels", a.pixels as u64, 0);
+    not_taken(b"whole play, 24 bytes: status", &r, &mut short, 14);
     let mut odd = [0u8; 35];
-    let b = player::play(&mut surface, 2, 1, &mut odd, 0, &r, everywhere(), 0x112233);
-    line::number(b"whole play, 35 bytes: status", b.status as u64, 2);
+    not_taken(b"whole play, 35 bytes: status", &r, &mut odd, 2);
+}
+
+fn not_taken(label: &[u8], r: &[u8], journal: &mut [u8], status: u32) {
+    let mut surface = [0xFF000000u32, 0xFF0000FFu32];
+    let a = player::play(&mut surface, 2, 1, journal, 0, r, everywhere(), 0x112233);
+    line::number(label, a.status as u64, status as u64);
+    line::number(b"refused: pixels", a.pixels as u64, 0);
     line::pixel(b"refused: pixel 0", surface[0], 0xFF000000);
     line::pixel(b"refused: pixel 1", surface[1], 0xFF0000FF);
 }
