@@ -2,3 +2,6 @@ pub mod Kept
 pub mod PlayStep
 pub mod UndoStep
 pub mod Condition3
+pub mod CallLaws
+pub mod LoopLaws
+pub mod RunLaws

@@ -1,3 +1,5 @@
 pub mod Pile
 pub mod Lists
 pub mod Run
+pub mod Reported
+pub mod Stepped

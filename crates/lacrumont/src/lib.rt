@@ -1,8 +1,10 @@
 // The C entry points: include/lacrumont.h documents them. They take every input.
 ghost use mathlib.Core.Path.{_≡_};
-ghost use Rattle.region.specs.declared.Rectangle.{Rectangle as Clip};
 ghost use Rattle.lent.specs.Lent.{lent, outcome};
 ghost use Rattle.lent.specs.Undoing.{undoOf};
+ghost use Rattle.words.specs.Choice.{pick};
+ghost use Rattle.reading.specs.Reading.{readingOf, readPalette};
+ghost use Rattle.lacrumont.specs.Numbers.{asksMask, numbersIn};
 ghost use Rattle.player.specs.Calls.{playWith, play as playing};
 use region::Rectangle;
 
@@ -57,4 +59,42 @@ pub extern "C" fn lacrumont_undo(
     *used = a.used;
     *pixels = a.pixels;
     a.status
+}
+
+// Reads the record's source (mask 0) or mask. `out` gets where the header part and the view's bytes stand, width, rows and layout.
+#[no_mangle]
+pub extern "C" fn lacrumont_read(s: &[u8], mask: u32, out: &mut [u64; 13]) -> u32
+    ensures { λ r. ⌜ (r ≡ readingOf (now (s .entry)) (asksMask mask) .status) × (now (out .exit) ≡ numbersIn (readingOf (now (s .entry)) (asksMask mask))) ⌝ }
+{
+    let a = reading::read(s, mask != 0);
+    *out = [
+        a.header_at as u64,
+        a.header_len as u64,
+        a.view_at as u64,
+        a.view_len as u64,
+        a.width as u64,
+        a.rows as u64,
+        a.bits as u64,
+        a.compression as u64,
+        flag(a.top_down),
+        a.red as u64,
+        a.green as u64,
+        a.blue as u64,
+        a.alpha as u64,
+    ];
+    a.status
+}
+
+fn flag(x: bool) -> u64
+    ensures { λ r. ⌜ r ≡ pick x 1 0 ⌝ }
+{
+    if x { 1 } else { 0 }
+}
+
+// The palette of the record's source (mask 0) or mask; black where there is none.
+#[no_mangle]
+pub extern "C" fn lacrumont_palette(s: &[u8], mask: u32, out: &mut [u32; 256])
+    ensures { λ _. ⌜ now (out .exit) ≡ readPalette (now (s .entry)) (asksMask mask) ⌝ }
+{
+    *out = reading::palette(s, mask != 0);
 }
