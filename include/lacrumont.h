@@ -1,4 +1,95 @@
+/* Lacrumont: plays EMF bitmap records onto a surface, journals every old pixel, and takes plays back to the last pixel.
+ *
+ * Link with liblacrumont.a (x86-64). Nothing else is needed: no heap, no globals, no threads, no input or output, no errno.
+ *
+ * Every call takes every input: it ends, and does nothing undefined, whatever the bytes are. What must hold of the pointers:
+ *   - each points to as many elements as the length behind it says, aligned as its type asks (a length of 0 may go with any
+ *     non-null, aligned pointer);
+ *   - what a call may write (surface, journal, used, pixels, out) overlaps nothing else that is lent to the same call;
+ *   - nobody else writes the lent memory during the call, nor reads what the call writes.
+ * Calls on memory of their own may run at the same time. A call keeps no pointer.
+ *
+ * Stack: a play uses about 60 KiB (buffers for one row of 4,096 pixels, a palette and a table), whatever the input; the other
+ * calls use less than 8 KiB. There is no recursion.
+ *
+ * A surface is width by height 32-bit pixels, row by row from the top: alpha << 24 | red << 16 | green << 8 | blue.
+ * A journal is records of 12 bytes: three 32-bit little-endian numbers. `used` counts those in use; it starts at 0.
+ */
+#ifndef LACRUMONT_H
+#define LACRUMONT_H
+
 #include <stddef.h>
 #include <stdint.h>
-uint32_t lacrumont_play(uint32_t *surface, size_t surface_len, uint32_t width, uint32_t height, uint8_t *journal, size_t journal_len, uint64_t *used, const uint8_t *record, size_t record_len, int32_t left, int32_t top, int32_t right, int32_t bottom, uint32_t brush, uint32_t *pixels);
-uint32_t lacrumont_undo(uint32_t *surface, size_t surface_len, uint32_t width, uint32_t height, const uint8_t *journal, size_t journal_len, uint64_t *used, uint32_t *pixels);
+
+#ifdef __cplusplus
+extern "C" {
+#endif
+
+/* What a call answers. The lowest number that applies is given, exactly where it applies. A refused call changes no byte of the
+ * surface and of the journal and not the count in use, and counts 0 pixels. */
+enum lacrumont_status {
+    LACRUMONT_OK = 0,
+    LACRUMONT_BAD_SURFACE = 1,    /* sides not 1..4,096, or pixels lent are not width * height */
+    LACRUMONT_BAD_JOURNAL = 2,    /* not a multiple of 12 bytes, over 20,000,000 records, or used above its records */
+    LACRUMONT_BAD_LENGTH = 3,     /* record under 8 bytes or over 16,777,216 */
+    LACRUMONT_BAD_TYPE = 4,       /* type not 0x72 (alpha blend), 0x4E (mask blit) or 0x51 (stretched DIB) */
+    LACRUMONT_BAD_SIZE = 5,       /* Size not the lent length, not a multiple of 4, or below the fixed part */
+    LACRUMONT_BAD_PART = 6,       /* a present picture's part begins before the fixed part's end or ends past Size */
+    LACRUMONT_BAD_TRANSFORM = 7,  /* XformSrc not the identity, or a present picture's usage not 0 */
+    LACRUMONT_BAD_HEADER = 8,     /* header part too short, or a header field not listed or out of bounds */
+    LACRUMONT_BAD_MASKS = 9,      /* under BI_BITFIELDS, a channel mask breaks its rules */
+    LACRUMONT_BAD_BITS = 10,      /* bits part shorter than its rows */
+    LACRUMONT_BAD_OPERATION = 11, /* blend operation, format or alpha, or a source that is needed and absent */
+    LACRUMONT_BAD_GEOMETRY = 12,  /* extents, signs, corners, or a source rectangle that is not inside its picture */
+    LACRUMONT_BAD_MASK = 13,      /* mask blit whose mask is absent or not 1 bit */
+    LACRUMONT_NO_ROOM = 14,       /* play: pixels + 1 exceed the free records */
+    LACRUMONT_NOTHING = 15,       /* undo: no record in use */
+    LACRUMONT_BAD_CLOSING = 16    /* undo: the last record does not close a play, names too many, or one of those is off the surface */
+};
+
+/* Plays the record, cut to the clip (left, top, right, bottom; right and bottom not included; any numbers) with the brush's low
+ * 24 bits (red << 16 | green << 8 | blue). Statuses 0 to 14.
+ *
+ * Accepted: every pixel of the clipped target is drawn, and the journal gets, from record *used on, one record for each (column,
+ * row, old pixel; row by row, left to right) and a closing one (0xFFFFFFFF, their number, the record's type). *used grows by
+ * their number + 1, and *pixels is their number. All other bytes of the journal stay. Refused: only *pixels is written, 0. */
+uint32_t lacrumont_play(uint32_t *surface, size_t surface_len, uint32_t width, uint32_t height, uint8_t *journal, size_t journal_len,
+                        uint64_t *used, const uint8_t *record, size_t record_len, int32_t left, int32_t top, int32_t right,
+                        int32_t bottom, uint32_t brush, uint32_t *pixels);
+
+/* Undoes the last play in the journal: restores its pixels from last to first, and lowers *used past its records. The journal is
+ * only read. *pixels is the number restored. Statuses 0, 1, 2, 15, 16; all records are tested before one pixel is restored. */
+uint32_t lacrumont_undo(uint32_t *surface, size_t surface_len, uint32_t width, uint32_t height, const uint8_t *journal,
+                        size_t journal_len, uint64_t *used, uint32_t *pixels);
+
+/* The numbers of a reading, by their place in `out`. The two parts are the record's own bytes, by offset and length. A refused
+ * reading, and one of a picture that is absent, gives 0 everywhere but for bits, which are 1. */
+enum lacrumont_number {
+    LACRUMONT_HEADER_AT = 0,
+    LACRUMONT_HEADER_LENGTH = 1, /* all bytes of the header part */
+    LACRUMONT_VIEW_AT = 2,
+    LACRUMONT_VIEW_LENGTH = 3, /* row length times rows */
+    LACRUMONT_WIDTH = 4,
+    LACRUMONT_ROWS = 5,
+    LACRUMONT_BITS = 6,
+    LACRUMONT_COMPRESSION = 7, /* 0 BI_RGB, 3 BI_BITFIELDS */
+    LACRUMONT_TOP_DOWN = 8,    /* 1 where the first stored row is the top one */
+    LACRUMONT_RED = 9,         /* the masks; 0 under BI_RGB */
+    LACRUMONT_GREEN = 10,
+    LACRUMONT_BLUE = 11,
+    LACRUMONT_ALPHA = 12,
+    LACRUMONT_NUMBERS = 13
+};
+
+/* Reads the record's source (mask 0) or mask (any other number). Statuses 0 and 3 to 13: the whole record is judged. */
+uint32_t lacrumont_read(const uint8_t *record, size_t record_len, uint32_t mask, uint64_t out[LACRUMONT_NUMBERS]);
+
+/* Its palette: 256 colours, red << 16 | green << 8 | blue; black where the table has no entry, where the picture has more than 8
+ * bits or is absent, and where the record is refused. */
+void lacrumont_palette(const uint8_t *record, size_t record_len, uint32_t mask, uint32_t out[256]);
+
+#ifdef __cplusplus
+}
+#endif
+
+#endif
