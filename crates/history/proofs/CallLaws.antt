@@ -19,8 +19,8 @@ use Rattle.player.specs.declared.Answer.{Answer}
 use Rattle.player.specs.Left.{left}
 use Rattle.player.specs.Calls.{playWith, play}
 use Rattle.history.specs.Lists.{made}
-use Rattle.history.specs.Run.{padded, callLength, callAt}
-use Rattle.history.specs.Stepped.{playAt, Stepped}
+use Rattle.history.specs.Run.{playAt, padded, callLength, callAt}
+use Rattle.history.specs.Stepped.{Stepped}
 
 picked-some : (b : Bool) (x : ℕ) → (pick b x 0 ≡ 0 → ⊥) → (b ≡ true) × (pick b x 0 ≡ x)
 picked-some true x s = (refl, refl)

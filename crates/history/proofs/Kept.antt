@@ -1,18 +1,14 @@
 -- What links the lent memory and the pile, and stays so from call to call. Assumes nothing.
-use mathlib.Core.Path.{_≡_, refl, ap, ap₂, _∙_}
-use mathlib.Core.Bool.{false, not, _||_}
+use mathlib.Core.Path.{_≡_, refl, sym, ap, ap₂, _∙_}
 use mathlib.Core.List.{List, [], _∷_, _++_}
-use Prim.Native.Nat.{ℕ, _+_, _*_, _/_, _%_, _≤_}
+use Prim.Native.Nat.{ℕ, _+_, _*_, _/_, _≤_}
 use native.Mathlib.Omega.{arith}
-use lib.Dec.{eqb, ltb}
 use lib.ListN.{length, take, length-append}
-use borrow.Author.Tests.{ltb-false, le-ltb}
-use Rattle.words.specs.Choice.{given}
-use Rattle.words.proofs.ChoiceLaws.{given-none, or-none, or-false, picked-false}
 use Rattle.journal.specs.Records.{stride, Entry, bytesOf, saved}
 use Rattle.journal.proofs.RecordLaws.{length-drawn, length-saved}
 use Rattle.journal.proofs.UndoLaws.{words-drawn}
-use Rattle.lent.specs.Lent.{Lent, lent, Outcome, badSurface, badJournal, limits, lentStatus, records}
+use Rattle.lent.specs.Lent.{Lent, lent, Outcome, limits, lentStatus, records}
+use Rattle.lent.proofs.LimitLaws.{passed, limits-none}
 use Rattle.lent.specs.Playing.{appended}
 use Rattle.player.specs.Calls.{Play, work}
 use Rattle.player.proofs.WorkLaws.{paints-pixels}
@@ -59,36 +55,16 @@ pub record Frame (w h : ℕ) (start : List ℕ) (size : ℕ) : Type 0 where
   pub pixels : Pixels start
   pub passes : (used : ℕ) → used ≤ size / stride → limits w h (length start) size used ≡ 0
 
-surface-sides : (w h n : ℕ) → badSurface w h n ≡ false → (w ≤ 4096) × (h ≤ 4096)
-unfolding badSurface
-surface-sides w h n e =
-    let a : (ltb w 1 || ltb 4096 w || ltb h 1 || ltb 4096 h ≡ false) × (not (eqb n (w * h)) ≡ false) = or-none _ _ e in
-    let b : (ltb w 1 || ltb 4096 w || ltb h 1 ≡ false) × (ltb 4096 h ≡ false) = or-none _ _ (a .0) in
-    let c : (ltb w 1 || ltb 4096 w ≡ false) × (ltb h 1 ≡ false) = or-none _ _ (b .0) in
-    (ltb-false 4096 w (or-none (ltb w 1) (ltb 4096 w) (c .0) .1), ltb-false 4096 h (b .1))
-
 -- the count in use may change, up to the journal's records
-journal-passes : (size : ℕ) → badJournal size 0 ≡ false
-    → (size / stride ≤ 20000000) × ((used : ℕ) → used ≤ size / stride → badJournal size used ≡ false)
-unfolding badJournal
-journal-passes size e =
-    let a : (not (eqb (size % stride) 0) || ltb 20000000 (size / stride) ≡ false) × (ltb (size / stride) 0 ≡ false) = or-none _ _ e in (
-      ltb-false 20000000 (size / stride) (or-none (not (eqb (size % stride) 0)) (ltb 20000000 (size / stride)) (a .0) .1),
-      λ used le. or-false _ _ (a .0) (le-ltb (size / stride) used le),
-    )
-
 pub framed : (w h : ℕ) (s j : List ℕ) → Pixels s → lentStatus w h (lent s j 0) ≡ 0 → Frame w h s (length j)
-unfolding limits
 framed w h s j b e =
-    let g : (badSurface w h (length s) ≡ false) × (given 2 (badJournal (length j) 0) 0 ≡ 0) = given-none 1 _ _ (omega arith) e in
-    let sides : (w ≤ 4096) × (h ≤ 4096) = surface-sides w h (length s) (g .0) in
-    let J = journal-passes (length j) (given-none 2 _ 0 (omega arith) (g .1) .0) in
+    let p = passed w h (length s) (length j) 0 e in
     record {
-      wide = sides .0;
-      high = sides .1;
-      most = J .0;
+      wide = p .wide .1;
+      high = p .high .1;
+      most = p .most;
       pixels = b;
-      passes = λ used le. picked-false _ 1 _ (g .0) ∙ picked-false _ 2 0 (J .1 used le);
+      passes = λ used le. sym (limits-none w h (length s) (length j) used (p .wide .0) (p .wide .1) (p .high .0) (p .high .1) (p .pixels-are) (p .whole) (p .most) le);
     }
 
 -- ---- the link, and one call

@@ -1,7 +1,6 @@
 -- Document 01, "The pile of condition 3", as a model: it is fed which call is made and what comes with it, "never a call's sheet, journal,
 -- count or answer". Definitions only.
 use Prim.Native.Nat.{ℕ, zero, suc, _+_, _-_}
-use mathlib.Core.Bool.{Bool}
 use mathlib.Core.List.{List, [], _∷_}
 use lib.Dec.{ltb}
 use Rattle.words.specs.Choice.{given, orElse}

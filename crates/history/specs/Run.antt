@@ -12,7 +12,7 @@ use Rattle.words.specs.Bytes.{le32}
 use Rattle.words.specs.Choice.{pick, given, orElse}
 use Rattle.region.specs.declared.Rectangle.{Rectangle}
 use Rattle.lent.specs.Lent.{lent, lentStatus, records}
-use Rattle.player.specs.Calls.{playWith}
+use Rattle.player.specs.Calls.{Play, playWith}
 use Rattle.history.specs.Pile.{Call, playing, undoing, Answered, pile, surfaceOf, roomOf, pileAnswers, pileAfter}
 use Rattle.history.specs.Lists.{memory}
 
@@ -29,10 +29,12 @@ callLength l at =
 abbrev pub clipAt : (list : List ℕ) (at : ℕ) → Rectangle
 clipAt l at = record { left = le32 l (at + 4); top = le32 l (at + 8); right = le32 l (at + 12); bottom = le32 l (at + 16) }
 
+abbrev pub playAt : (list : List ℕ) (at : ℕ) → Play
+playAt l at = playWith (take (le32 l (at + 28)) (drop (at + 32) l)) (clipAt l at) (le32 l (at + 20))
+
 -- the call at a place
 unfoldable pub callAt : (list : List ℕ) (at : ℕ) → Call
-callAt l at =
-    pick (eqb (le32 l at) 1) (playing (playWith (take (le32 l (at + 28)) (drop (at + 32) l)) (clipAt l at) (le32 l (at + 20)))) undoing
+callAt l at = pick (eqb (le32 l at) 1) (playing (playAt l at)) undoing
 
 -- n calls from a place on, and nothing behind them
 unfoldable pub wellFormed : (list : List ℕ) (at n : ℕ) → Bool

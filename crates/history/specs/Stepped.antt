@@ -2,17 +2,10 @@
 use mathlib.Core.Path.{_≡_}
 use Prim.Native.Nat.{ℕ, _+_}
 use mathlib.Core.List.{List, [], _∷_}
-use lib.ListN.{take, drop}
 use lib.Seq.{sets}
-use Rattle.words.specs.Bytes.{le32}
 use Rattle.lent.specs.Lent.{Lent}
-use Rattle.player.specs.Calls.{Play, playWith}
 use Rattle.history.specs.Lists.{made}
-use Rattle.history.specs.Run.{clipAt, callAt, callLength}
-
--- the play at a place of the list, as `callAt` has it
-abbrev pub playAt : (list : List ℕ) (at : ℕ) → Play
-playAt l at = playWith (take (le32 l (at + 28)) (drop (at + 32) l)) (clipAt l at) (le32 l (at + 20))
+use Rattle.history.specs.Run.{callAt, callLength}
 
 -- the call at a place of the list was made on m: its two numbers stand at place k of the answers, and next is the place behind it
 pub record Stepped (width height : ℕ) (list : List ℕ) (at : ℕ) (m after : Lent) (k : ℕ) (answers₀ answers : List ℕ) (next : ℕ) : Type 0 where

@@ -9,9 +9,9 @@ ghost use Rattle.lent.specs.Lent.{lent};
 ghost use Rattle.player.specs.Calls.{play};
 ghost use Rattle.player.specs.Left.{left};
 ghost use Rattle.history.specs.Lists.{made, memory, answers as answersOf};
-ghost use Rattle.history.specs.Run.{padded, callLength, callAt, wellFormed, callsFrom, numbersOf, runOf};
+ghost use Rattle.history.specs.Run.{playAt, padded, callLength, callAt, wellFormed, callsFrom, numbersOf, runOf};
 ghost use Rattle.history.specs.Reported.{reported, refusal};
-ghost use Rattle.history.specs.Stepped.{playAt, Stepped};
+ghost use Rattle.history.specs.Stepped.{Stepped};
 use player::Answer;
 use region::Rectangle;
 

@@ -1,4 +1,4 @@
-use mathlib.Core.Path.{sym, ap, _∙_, refl}
+use mathlib.Core.Path.{sym, ap, _∙_}
 use borrow.Author.Tests.{eq-eqb, ne-eqb, not-false}
 use Rattle.words.proofs.ChoiceLaws.{or-true, or-false}
 use mathlib.Core.Path.{sym, ap, _∙_}

@@ -7,20 +7,13 @@ use native.Mathlib.Omega.{arith}
 use borrow.Author.Needs.{needs}
 use Rattle.draw.proofs.mask_columns.Statement.{statement}
 use Rattle.draw.proofs.mask_columns.Tie as tie
-use Rattle.draw.proofs.mask_columns.Reads as reads
-use Rattle.draw.proofs.mask_columns.Lts as lts
-use Rattle.emr.proofs.fields.is_absent.Reads as is-absent-reads
-use Rattle.meaning.proofs.columns.of_mask.Reads as of-mask-reads
 
--- src/draw.rt:50:8
 is-absent-requires : tie.Need-is-absent-requires
 is-absent-requires c κs = search needs
 
--- src/draw.rt:51:9
 returns : tie.Need-returns
 returns c = (refl, λ a. absent-none _ _ (c .before .is-absent .ensures) (c .if1 .taken) a)
 
--- src/draw.rt:53:5
 of-mask-requires : tie.Need-of-mask-requires
 of-mask-requires c κs =
     let a = c .before .before .before .before .before .before in
@@ -28,11 +21,9 @@ of-mask-requires c κs =
     let w = mask-wide (now (a .args .s)) (a .args .n) (a .pre .0 .0) (sym (c .before .before .is-absent .ensures) ∙ c .before .if1 .left) in
     (omega (arith, a .pre .0 .2, e .columns .1), a .pre .0 .1, omega (arith, w, a .pre .1))
 
--- src/draw.rt:44:1
 same-length : tie.Need-same-length
 same-length c = search needs
 
--- src/draw.rt:44:1
 returns-2 : tie.Need-returns-2
 returns-2 c = search needs
 

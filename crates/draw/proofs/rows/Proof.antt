@@ -6,7 +6,7 @@ use Rattle.meaning.specs.declared.Plan.{Plan}
 use Prim.Native.Nat.{ℕ}
 use lib.Seq.{length-take-le}
 use lib.ListN.{take, length-replicate}
-use mathlib.Core.Path.{_≡_, refl, sym, ap, _∙_}
+use mathlib.Core.Path.{_≡_, sym, ap, _∙_}
 use Prim.Native.Nat.{_-_}
 use native.Mathlib.Omega.{arith}
 use lib.ListN.{length}
@@ -16,12 +16,6 @@ use Rattle.meaning.specs.Meaning.{meaningIn, paintOn}
 use Rattle.draw.proofs.DrawLaws.{rows-more, colours-are, bits-are, row-inside, records-inside}
 use Rattle.draw.proofs.rows.Statement.{statement}
 use Rattle.draw.proofs.rows.Tie as tie
-use Rattle.draw.proofs.rows.Reads as reads
-use Rattle.draw.proofs.rows.Lts as lts
-use Rattle.meaning.proofs.rows.of_mask.Reads as of-mask-reads
-use Rattle.meaning.proofs.rows.of_source.Reads as of-source-reads
-use Rattle.meaning.proofs.rule.Reads as rule-reads
-use Rattle.paint.proofs.row.Reads as row-reads
 
 abbrev Inv-loop : tie.InvT-loop
 Inv-loop surface₀ width height journal₀ at s n plan table palette columns spots t brush rule x count colours₀ bits₀ next₀ k₀ surface journal colours bits next k =
@@ -32,47 +26,38 @@ abbrev μ-loop : tie.MeasureT-loop
 μ-loop surface₀ width height journal₀ at s n plan table palette columns spots t brush rule x count colours₀ bits₀ next₀ k₀ surface journal colours bits next k =
     t .rows .count - k
 
--- src/draw.rt:80:9
 rule-requires : tie.Need-rule-requires Inv-loop μ-loop
 rule-requires c κs = tt
 
--- src/draw.rt:81:13
 cast-x : tie.Need-cast-x Inv-loop μ-loop
 cast-x c = omega (arith, c .before .before .before .before .before .before .before .pre .1 .1 .0 .0 .columns, c .before .before .before .before .before .before .before .pre .1 .1 .0 .0 .wide)
 
--- src/draw.rt:87:5
 loop-holds : tie.Need-loop-holds Inv-loop μ-loop
 loop-holds c = (rows-begin _ _ _ _ _ _ _ _ _, length-replicate {A = ℕ} 4096 0, length-replicate {A = ℕ} 4096 0)
 
--- src/draw.rt:88:18
 add-j : tie.Need-add-j Inv-loop μ-loop
 add-j c =
     let a = c .before .before .before .before .before .before .before .before .before .before .before in
     omega (arith, a .pre .1 .1 .0 .0 .line-numbers (omega arith), extents (now (a .args .s)) (a .args .n) (a .pre .0 .0) .lines .1)
 
--- src/draw.rt:88:17
 cast-j : tie.Need-cast-j Inv-loop μ-loop
 cast-j c =
     let a = c .before .before .before .before .before .before .before .before .before .before .before in
     omega (arith, a .pre .1 .1 .0 .0 .line-numbers (omega arith), extents (now (a .args .s)) (a .args .n) (a .pre .0 .0) .lines .1)
 
--- src/draw.rt:89:18
 add-y : tie.Need-add-y Inv-loop μ-loop
 add-y c =
     let a = c .before .before .before .before .before .before .before .before .before .before .before .before in
     omega (arith, a .pre .1 .1 .0 .0 .lines (omega arith))
 
--- src/draw.rt:89:17
 cast-y : tie.Need-cast-y Inv-loop μ-loop
 cast-y c =
     let a = c .before .before .before .before .before .before .before .before .before .before .before .before in
     omega (arith, a .pre .1 .1 .0 .0 .lines (omega arith))
 
--- src/draw.rt:99:13
 slice-aggregate-of-source : tie.Need-slice-aggregate-of-source Inv-loop μ-loop
 slice-aggregate-of-source c = omega arith
 
--- src/draw.rt:90:9
 of-source-requires : tie.Need-of-source-requires Inv-loop μ-loop
 of-source-requires c κs =
     let a = c .before .before .before .before .before .before .before .before .before .before .before .before .before in
@@ -94,11 +79,9 @@ of-source-requires c κs =
       ),
     )
 
--- src/draw.rt:101:59
 slice-aggregate-of-mask : tie.Need-slice-aggregate-of-mask Inv-loop μ-loop
 slice-aggregate-of-mask c = omega arith
 
--- src/draw.rt:101:9
 of-mask-requires : tie.Need-of-mask-requires Inv-loop μ-loop
 of-mask-requires c κs =
     let a = c .before .before .before .before .before .before .before .before .before .before .before .before .before .before .before .before in
@@ -112,31 +95,26 @@ of-mask-requires c κs =
       ),
     )
 
--- src/draw.rt:109:13
 array-share-prefix-colours : tie.Need-array-share-prefix-colours Inv-loop μ-loop
 array-share-prefix-colours c =
     let a = c .before .before .before .before .before .before .before .before .before .before .before .before .before .before .before .before .before .before .before .before in
     omega (arith, a .pre .1 .1 .0 .0 .columns, a .pre .1 .1 .0 .0 .wide, a .pre .1 .1 .0 .1 .as-many, c .before .before .before .before .before .before .before .before .before .before .before .before .loop .inv .1, c .before .before .before .before .before .before .of-source .ensures .long)
 
--- src/draw.rt:109:13
 slice-aggregate-row : tie.Need-slice-aggregate-row Inv-loop μ-loop
 slice-aggregate-row c =
     let a = c .before .before .before .before .before .before .before .before .before .before .before .before .before .before .before .before .before .before .before .before .before in
     sym (length-take-le _ _ (omega (arith, a .pre .1 .1 .0 .0 .columns, a .pre .1 .1 .0 .0 .wide, a .pre .1 .1 .0 .1 .as-many, c .before .before .before .before .before .before .before .before .before .before .before .before .before .loop .inv .1, c .before .before .before .before .before .before .before .of-source .ensures .long)))
 
--- src/draw.rt:110:13
 array-share-prefix-bits : tie.Need-array-share-prefix-bits Inv-loop μ-loop
 array-share-prefix-bits c =
     let a = c .before .before .before .before .before .before .before .before .before .before .before .before .before .before .before .before .before .before .before .before .before in
     omega (arith, a .pre .1 .1 .0 .0 .columns, a .pre .1 .1 .0 .0 .wide, a .pre .1 .1 .0 .1 .as-many, c .before .before .before .before .before .before .before .before .before .before .before .before .before .loop .inv .2, c .before .before .before .before .of-mask .ensures .long)
 
--- src/draw.rt:110:13
 slice-aggregate-row-2 : tie.Need-slice-aggregate-row-2 Inv-loop μ-loop
 slice-aggregate-row-2 c =
     let a = c .before .before .before .before .before .before .before .before .before .before .before .before .before .before .before .before .before .before .before .before .before .before in
     sym (length-take-le _ _ (omega (arith, a .pre .1 .1 .0 .0 .columns, a .pre .1 .1 .0 .0 .wide, a .pre .1 .1 .0 .1 .as-many, c .before .before .before .before .before .before .before .before .before .before .before .before .before .before .loop .inv .2, c .before .before .before .before .before .of-mask .ensures .long)))
 
--- src/draw.rt:102:9
 row-requires : tie.Need-row-requires Inv-loop μ-loop
 row-requires c κs =
     let a = c .before .before .before .before .before .before .before .before .before .before .before .before .before .before .before .before .before .before .before .before .before .before in
@@ -154,7 +132,6 @@ row-requires c κs =
       (omega (arith, y, l .inv .0 .leads .pixels, a .pre .1 .1 .1 .0), omega (arith, zc, m .as-many, r, l .inv .0 .leads .size, a .pre .1 .1 .1 .1)),
     )
 
--- src/draw.rt:113:9
 add-next : tie.Need-add-next Inv-loop μ-loop
 add-next c =
     let a = c .before .before .before .before .before .before .before .before .before .before .before .before .before .before .before .before .before .before .before .before .before .before .before .before .before .before .before in
@@ -162,15 +139,12 @@ add-next c =
     let r = records-inside (a .args .at) (a .args .t .columns .count) (l .k) (a .args .t .rows .count) (l .next) (c .before .before .before .before .before .before .before .before .before .before .before .before .before .before .before .before .before .if1 .taken) (l .inv .0 .next-record) in
     omega (arith, r, a .pre .1 .1 .0 .1 .as-many, a .pre .1 .1 .1 .1)
 
--- src/draw.rt:114:9
 add-k : tie.Need-add-k Inv-loop μ-loop
 add-k c = omega arith
 
--- src/draw.rt:87:5
 loop-less : tie.Need-loop-less Inv-loop μ-loop
 loop-less c = omega arith
 
--- src/draw.rt:87:5
 loop-again : tie.Need-loop-again Inv-loop μ-loop
 loop-again c =
     let a = c .before .before .before .before .before .before .before .before .before .before .before .before .before .before .before .before .before .before .before .before .before .before .before .before .before .before .before in
@@ -189,15 +163,12 @@ loop-again c =
       c .before .before .before .before .before .before .before .before .before .before .of-mask .ensures .long ∙ l .inv .2,
     )
 
--- src/draw.rt:57:1
 same-length : tie.Need-same-length Inv-loop μ-loop
 same-length c = c .before .before .loop .inv .0 .leads .pixels
 
--- src/draw.rt:57:1
 same-length-2 : tie.Need-same-length-2 Inv-loop μ-loop
 same-length-2 c = c .before .before .loop .inv .0 .leads .size
 
--- src/draw.rt:57:1
 returns : tie.Need-returns Inv-loop μ-loop
 returns c = rows-end _ _ _ _ _ _ _ _ _ _ _ _ _ (c .before .before .loop .inv .0) (omega arith)
 

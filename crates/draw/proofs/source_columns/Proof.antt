@@ -2,24 +2,16 @@ use Rattle.draw.proofs.DrawLaws.{absent-none}
 use Rattle.meaning.proofs.FitLaws.{extents, source-fits}
 use denote.Ref.{now}
 use mathlib.Core.Path.{refl, sym, _∙_}
-use native.Mathlib.Omega.{arith}
 use borrow.Author.Needs.{needs}
 use Rattle.draw.proofs.source_columns.Statement.{statement}
 use Rattle.draw.proofs.source_columns.Tie as tie
-use Rattle.draw.proofs.source_columns.Reads as reads
-use Rattle.draw.proofs.source_columns.Lts as lts
-use Rattle.emr.proofs.fields.is_absent.Reads as is-absent-reads
-use Rattle.meaning.proofs.columns.of_source.Reads as of-source-reads
 
--- src/draw.rt:37:8
 is-absent-requires : tie.Need-is-absent-requires
 is-absent-requires c κs = search needs
 
--- src/draw.rt:38:9
 returns : tie.Need-returns
 returns c = (refl, λ a. absent-none _ _ (c .before .is-absent .ensures) (c .if1 .taken) a)
 
--- src/draw.rt:40:5
 of-source-requires : tie.Need-of-source-requires
 of-source-requires c κs =
     let a = c .before .before .before .before .before .before in
@@ -27,11 +19,9 @@ of-source-requires c κs =
     let f = source-fits (now (a .args .s)) (a .args .n) (a .pre .0) (sym (c .before .before .is-absent .ensures) ∙ c .before .if1 .left) in
     ((a .pre .2, a .pre .1), (f .cx .0, f .columns .0, f .cx .1, e .columns .1))
 
--- src/draw.rt:32:1
 same-length : tie.Need-same-length
 same-length c = search needs
 
--- src/draw.rt:32:1
 returns-2 : tie.Need-returns-2
 returns-2 c = search needs
 

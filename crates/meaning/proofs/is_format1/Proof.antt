@@ -1,14 +1,10 @@
 use Rattle.meaning.proofs.RuleLaws.{format1-asked, format1-none}
 use Rattle.meaning.proofs.is_format1.Statement.{statement}
 use Rattle.meaning.proofs.is_format1.Tie as tie
-use Rattle.meaning.proofs.is_format1.Reads as reads
-use Rattle.meaning.proofs.is_format1.Lts as lts
 
--- src/lib.rt:34:9
 returns : tie.Need-returns
 returns c = search format1-asked
 
--- src/lib.rt:30:1
 returns-2 : tie.Need-returns-2
 returns-2 c = search format1-none
 

@@ -2,30 +2,22 @@ use Rattle.meaning.proofs.RuleLaws.{rule-format1, rule-format0, rule-ma
 use borrow.Author.Needs.{needs}
 use Rattle.meaning.proofs.rule.Statement.{statement}
 use Rattle.meaning.proofs.rule.Tie as tie
-use Rattle.meaning.proofs.rule.Reads as reads
-use Rattle.meaning.proofs.rule.Lts as lts
 
--- src/lib.rt:15:15
 cast-low : tie.Need-cast-low
 cast-low c = search needs
 
--- src/lib.rt:16:16
 cast-high : tie.Need-cast-high
 cast-high c = search needs
 
--- src/lib.rt:19:13
 returns : tie.Need-returns
 returns c = search rule-format1
 
--- src/lib.rt:21:9
 returns-2 : tie.Need-returns-2
 returns-2 c = search rule-format0
 
--- src/lib.rt:24:9
 returns-3 : tie.Need-returns-3
 returns-3 c = search rule-masked
 
--- src/lib.rt:12:1
 returns-4 : tie.Need-returns-4
 returns-4 c = search rule-raster
 

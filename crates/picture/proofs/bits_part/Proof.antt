@@ -6,34 +6,25 @@ use Prim.Native.Nat.{ℕ, _+_, _-_}
 use borrow.Author.Needs.{needs}
 use Rattle.picture.proofs.bits_part.Statement.{statement}
 use Rattle.picture.proofs.bits_part.Tie as tie
-use Rattle.picture.proofs.bits_part.Reads as reads
-use Rattle.picture.proofs.bits_part.Lts as lts
 
--- src/lib.rt:22:16
 cast-from : tie.Need-cast-from
 cast-from c = search needs
 
--- src/lib.rt:23:21
 cast-to : tie.Need-cast-to
 cast-to c = search needs
 
--- src/lib.rt:23:14
 add-to : tie.Need-add-to
 add-to c = search needs
 
--- src/lib.rt:24:5
 sub-result : tie.Need-sub-result
 sub-result c = search needs
 
--- src/lib.rt:24:5
 part-result-start : tie.Need-part-result-start
 part-result-start c = search needs
 
--- src/lib.rt:24:5
 part-result-end : tie.Need-part-result-end
 part-result-end c = search needs
 
--- src/lib.rt:18:1
 returns : tie.Need-returns
 unfolding bitsPart
 returns c =

@@ -1,5 +1,4 @@
-use mathlib.Core.Path.{sym, ap, _∙_}
-use native.Mathlib.Omega.{arith}
+use mathlib.Core.Path.{ap, _∙_}
 use lib.ListN.{length}
 use Rattle.dib.specs.Judged.{badHeader}
 use Rattle.dib.proofs.JudgeLaws.{passed-fields}

@@ -3,7 +3,7 @@ use Prim.Native.Nat.{ℕ}
 use lib.ListN.{length}
 use Rattle.dib.specs.Header.{headerOf}
 use Rattle.dib.specs.Judged.{badHeader}
-use mathlib.Core.Path.{ap₂, ap, sym, _∙_}
+use mathlib.Core.Path.{ap, sym, _∙_}
 use Rattle.picture.proofs.PaletteLaws.{palette-none, palette-full}
 use borrow.Author.Needs.{needs}
 use Rattle.picture.proofs.palette.Statement.{statement}

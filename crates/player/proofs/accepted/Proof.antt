@@ -6,97 +6,76 @@ use native.Mathlib.Omega.{arith}
 use borrow.Author.Needs.{needs}
 use Rattle.player.proofs.accepted.Statement.{statement}
 use Rattle.player.proofs.accepted.Tie as tie
-use Rattle.player.proofs.accepted.Reads as reads
-use Rattle.player.proofs.accepted.Lts as lts
-use Rattle.journal.proofs.put.Reads as put-reads
-use Rattle.player.proofs.refused.Reads as refused-reads
-use Rattle.region.proofs.clipped_target.Reads as clipped-target-reads
 
--- src/lib.rt:56:9
 clipped-target-requires : tie.Need-clipped-target-requires
 clipped-target-requires c κs = search needs
 
--- src/lib.rt:57:18
 mul-pixels : tie.Need-mul-pixels
 mul-pixels c =
     let a = c .before .before .before .before .before in
     omega (arith, pixels-few (a .args .width) (a .args .height) (now (a .args .surface)) (now (a .args .journal)) (a .args .used) (now (a .args .s)) (a .args .n) (a .args .clip) (a .args .brush) _ (a .pre .0) (c .before .clipped-target .ensures))
 
--- src/lib.rt:59:16
 sub-free : tie.Need-sub-free
 sub-free c =
     let a = c .before .before .before .before .before in
     omega (arith, passed (a .args .width) (a .args .height) (length (now (a .args .surface))) (length (now (a .args .journal))) (a .args .used) (a .pre .0) .enough)
 
--- src/lib.rt:60:15
 add-if1 : tie.Need-add-if1
 add-if1 c =
     let a = c .before .before .before .before .before in
     omega (arith, pixels-few (a .args .width) (a .args .height) (now (a .args .surface)) (now (a .args .journal)) (a .args .used) (now (a .args .s)) (a .args .n) (a .args .clip) (a .args .brush) _ (a .pre .0) (c .before .clipped-target .ensures))
 
--- src/lib.rt:61:9
 refused-requires : tie.Need-refused-requires
 refused-requires c κs = search needs
 
--- src/lib.rt:61:9
 returns : tie.Need-returns
 returns c =
     let a = c .before .before .before .before .before .before .before in
     play-full (a .args .width) (a .args .height) (now (a .args .surface)) (now (a .args .journal)) (a .args .used) (now (a .args .s)) (a .args .n) (a .args .clip) (a .args .brush) _ (a .pre .0) (c .before .before .before .clipped-target .ensures) (c .refused .result) (c .before .if1 .taken) (c .refused .ensures)
 
--- src/lib.rt:63:5
 clipped-requires : tie.Need-clipped-requires
 clipped-requires c κs =
     let a = c .before .before .before .before .before .before .before .before in
     let p = passed (a .args .width) (a .args .height) (length (now (a .args .surface))) (length (now (a .args .journal))) (a .args .used) (a .pre .0) in
     ((a .pre .1, c .before .before .before .before .clipped-target .ensures), (p .wide .1, p .pixels-are, omega (arith, p .enough, c .before .before .if1 .left)))
 
--- src/lib.rt:75:20
 add-closing : tie.Need-add-closing
 add-closing c =
     let a = c .before .before .before .before .before .before .before .before .before .before .before .before .before in
     let p = passed (a .args .width) (a .args .height) (length (now (a .args .surface))) (length (now (a .args .journal))) (a .args .used) (a .pre .0) in
     omega (arith, pixels-few (a .args .width) (a .args .height) (now (a .args .surface)) (now (a .args .journal)) (a .args .used) (now (a .args .s)) (a .args .n) (a .args .clip) (a .args .brush) _ (a .pre .0) (c .before .before .before .before .before .before .before .before .before .clipped-target .ensures), p .enough, p .most)
 
--- src/lib.rt:76:49
 cast-put : tie.Need-cast-put
 cast-put c =
     let a = c .before .before .before .before .before .before .before .before .before .before .before .before .before .before in
     omega (arith, pixels-few (a .args .width) (a .args .height) (now (a .args .surface)) (now (a .args .journal)) (a .args .used) (now (a .args .s)) (a .args .n) (a .args .clip) (a .args .brush) _ (a .pre .0) (c .before .before .before .before .before .before .before .before .before .before .clipped-target .ensures))
 
--- src/lib.rt:76:5
 put-requires : tie.Need-put-requires
 put-requires c κs = search needs
 
--- src/lib.rt:79:17
 cast-t26 : tie.Need-cast-t26
 cast-t26 c =
     let a = c .before .before .before .before .before .before .before .before .before .before .before .before .before .before .before .before .before in
     omega (arith, pixels-few (a .args .width) (a .args .height) (now (a .args .surface)) (now (a .args .journal)) (a .args .used) (now (a .args .s)) (a .args .n) (a .args .clip) (a .args .brush) _ (a .pre .0) (c .before .before .before .before .before .before .before .before .before .before .before .before .before .clipped-target .ensures))
 
--- src/lib.rt:80:15
 add-t17 : tie.Need-add-t17
 add-t17 c =
     let a = c .before .before .before .before .before .before .before .before .before .before .before .before .before .before .before .before .before in
     let p = passed (a .args .width) (a .args .height) (length (now (a .args .surface))) (length (now (a .args .journal))) (a .args .used) (a .pre .0) in
     omega (arith, pixels-few (a .args .width) (a .args .height) (now (a .args .surface)) (now (a .args .journal)) (a .args .used) (now (a .args .s)) (a .args .n) (a .args .clip) (a .args .brush) _ (a .pre .0) (c .before .before .before .before .before .before .before .before .before .before .before .before .before .clipped-target .ensures), p .enough, p .most)
 
--- src/lib.rt:80:15
 add-t27 : tie.Need-add-t27
 add-t27 c =
     let a = c .before .before .before .before .before .before .before .before .before .before .before .before .before .before .before .before .before in
     let p = passed (a .args .width) (a .args .height) (length (now (a .args .surface))) (length (now (a .args .journal))) (a .args .used) (a .pre .0) in
     omega (arith, pixels-few (a .args .width) (a .args .height) (now (a .args .surface)) (now (a .args .journal)) (a .args .used) (now (a .args .s)) (a .args .n) (a .args .clip) (a .args .brush) _ (a .pre .0) (c .before .before .before .before .before .before .before .before .before .before .before .before .before .clipped-target .ensures), p .enough, p .most)
 
--- src/lib.rt:36:1
 same-length : tie.Need-same-length
 same-length c = search needs
 
--- src/lib.rt:36:1
 same-length-2 : tie.Need-same-length-2
 same-length-2 c = search needs
 
--- src/lib.rt:36:1
 returns-2 : tie.Need-returns-2
 returns-2 c =
     let a = c .before .before .before .before .before .before .before .before .before .before .before .before .before .before .before .before .before in

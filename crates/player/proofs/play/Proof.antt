@@ -4,58 +4,40 @@ use Rattle.player.proofs.PlayLaws.{play-limits, play-refused, play-acce
 use borrow.Author.Needs.{needs}
 use Rattle.player.proofs.play.Statement.{statement}
 use Rattle.player.proofs.play.Tie as tie
-use Rattle.player.proofs.play.Reads as reads
-use Rattle.player.proofs.play.Lts as lts
-use Rattle.judge.proofs.check.Reads as check-reads
-use Rattle.lent.proofs.status.Reads as status-reads
-use Rattle.player.proofs.accepted.Reads as accepted-reads
-use Rattle.player.proofs.refused.Reads as refused-reads
 
--- src/lib.rt:97:9
 status-requires : tie.Need-status-requires
 status-requires c κs = search needs
 
--- src/lib.rt:99:9
 refused-requires : tie.Need-refused-requires
 refused-requires c κs = search needs
 
--- src/lib.rt:99:9
 returns : tie.Need-returns
 returns c = search play-limits
 
--- src/lib.rt:101:19
 check-requires : tie.Need-check-requires
 check-requires c κs = search needs
 
--- src/lib.rt:102:27
 enum-known-n : tie.Need-enum-known-n
 enum-known-n c = search needs
 
--- src/lib.rt:103:26
 enum-known-k : tie.Need-enum-known-k
 enum-known-k c = search needs
 
--- src/lib.rt:103:32
 refused-requires-2 : tie.Need-refused-requires-2
 refused-requires-2 c κs = search needs
 
--- src/lib.rt:103:32
 returns-2 : tie.Need-returns-2
 returns-2 c = search play-refused
 
--- src/lib.rt:105:5
 accepted-requires : tie.Need-accepted-requires
 accepted-requires c κs = (sym (c .before .before .before .before .before .before .before .status .ensures) ∙ c .before .before .before .before .before .before .if1 .left, sym (c .before .before .before .n .given .1) ∙ c .before .before .before .before .before .check .ensures)
 
--- src/lib.rt:85:1
 same-length : tie.Need-same-length
 same-length c = search needs
 
--- src/lib.rt:85:1
 same-length-2 : tie.Need-same-length-2
 same-length-2 c = search needs
 
--- src/lib.rt:85:1
 returns-3 : tie.Need-returns-3
 returns-3 c =
     let a = c .before .before .before .before .before .before .before .before .before .before .before .before .before .before .before .before in

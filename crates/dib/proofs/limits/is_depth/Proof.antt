@@ -1,6 +1,5 @@
 use Rattle.dib.proofs.JudgeLaws.{depth-last}
 use mathlib.Core.Path.{sym, ap}
-use borrow.Author.Tests.{ne-eqb}
 use Rattle.pixel.specs.Place.{isDepth}
 use Rattle.dib.proofs.limits.is_depth.Statement.{statement}
 use Rattle.dib.proofs.limits.is_depth.Tie as tie

@@ -1,4 +1,4 @@
-use mathlib.Core.Path.{sym, refl, ap, _∙_}
+use mathlib.Core.Path.{sym, ap, _∙_}
 use mathlib.Core.Bool.{not}
 use Rattle.words.proofs.ChoiceLaws.{and-true, and-false, or-true, or-false}
 use Rattle.emr.specs.Framed.{badParts}

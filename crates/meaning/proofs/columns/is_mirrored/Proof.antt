@@ -1,14 +1,10 @@
 use Rattle.meaning.proofs.ColumnLaws.{mirrored-plain, mirrored-back}
 use Rattle.meaning.proofs.columns.is_mirrored.Statement.{statement}
 use Rattle.meaning.proofs.columns.is_mirrored.Tie as tie
-use Rattle.meaning.proofs.columns.is_mirrored.Reads as reads
-use Rattle.meaning.proofs.columns.is_mirrored.Lts as lts
 
--- src/columns.rt:28:9
 returns : tie.Need-returns
 returns c = search mirrored-plain
 
--- src/columns.rt:24:1
 returns-2 : tie.Need-returns-2
 returns-2 c = search mirrored-back
 

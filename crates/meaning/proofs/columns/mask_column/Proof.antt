@@ -5,20 +5,13 @@ use mir.Facts.{toZ-ofZ}
 use borrow.Author.Needs.{needs}
 use Rattle.meaning.proofs.columns.mask_column.Statement.{statement}
 use Rattle.meaning.proofs.columns.mask_column.Tie as tie
-use Rattle.meaning.proofs.columns.mask_column.Reads as reads
-use Rattle.meaning.proofs.columns.mask_column.Lts as lts
-use Rattle.pixel.proofs.place.mask_pixel.Reads as mask-pixel-reads
-use Rattle.words.proofs.signed.Reads as signed-reads
 
--- src/columns.rt:63:30
 signed-requires : tie.Need-signed-requires
 signed-requires c κs = search needs
 
--- src/columns.rt:63:5
 mask-pixel-requires : tie.Need-mask-pixel-requires
 mask-pixel-requires c κs = search needs
 
--- src/columns.rt:59:1
 returns : tie.Need-returns
 returns c =
     c .mask-pixel .ensures

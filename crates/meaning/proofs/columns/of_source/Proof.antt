@@ -4,9 +4,6 @@ use native.Mathlib.Omega.{arith}
 use Prim.Native.Nat.{_+_, _-_}
 use Rattle.meaning.proofs.columns.of_source.Statement.{statement}
 use Rattle.meaning.proofs.columns.of_source.Tie as tie
-use Rattle.meaning.proofs.columns.of_source.Reads as reads
-use Rattle.meaning.proofs.columns.of_source.Lts as lts
-use Rattle.meaning.proofs.columns.source_column.Reads as source-column-reads
 
 abbrev Inv-loop : tie.InvT-loop
 Inv-loop x source target index out₀ count k₀ out k = Filling (λ i. sourceColumn x source target (index + i)) count out₀ k out
@@ -14,47 +11,36 @@ Inv-loop x source target index out₀ count k₀ out k = Filling (λ i. sourceCo
 abbrev μ-loop : tie.MeasureT-loop
 μ-loop x source target index out₀ count k₀ out k = count - k
 
--- src/columns.rt:53:5
 loop-holds : tie.Need-loop-holds Inv-loop μ-loop
 loop-holds c = search filling-begins
 
--- src/columns.rt:54:59
 cast-source-column : tie.Need-cast-source-column Inv-loop μ-loop
 cast-source-column c = omega arith
 
--- src/columns.rt:54:51
 add-source-column : tie.Need-add-source-column Inv-loop μ-loop
 add-source-column c = omega arith
 
--- src/columns.rt:54:18
 source-column-requires : tie.Need-source-column-requires Inv-loop μ-loop
 source-column-requires c κs = omega arith
 
--- src/columns.rt:54:9
 mul-out : tie.Need-mul-out Inv-loop μ-loop
 mul-out c = omega arith
 
--- src/columns.rt:54:9
 slice-write-out : tie.Need-slice-write-out Inv-loop μ-loop
 slice-write-out c = omega (arith, c .before .before .loop .inv .room)
 
--- src/columns.rt:55:9
 add-k : tie.Need-add-k Inv-loop μ-loop
 add-k c = omega arith
 
--- src/columns.rt:53:5
 loop-less : tie.Need-loop-less Inv-loop μ-loop
 loop-less c = omega arith
 
--- src/columns.rt:53:5
 loop-again : tie.Need-loop-again Inv-loop μ-loop
 loop-again c = search filling-turns
 
--- src/columns.rt:47:1
 same-length : tie.Need-same-length Inv-loop μ-loop
 same-length c = c .before .loop .inv .filled .long
 
--- src/columns.rt:47:1
 returns : tie.Need-returns Inv-loop μ-loop
 returns c = search filling-ends
 

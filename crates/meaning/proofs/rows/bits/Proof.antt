@@ -5,9 +5,6 @@ use native.Mathlib.Omega.{arith}
 use Prim.Native.Nat.{_-_}
 use Rattle.meaning.proofs.rows.bits.Statement.{statement}
 use Rattle.meaning.proofs.rows.bits.Tie as tie
-use Rattle.meaning.proofs.rows.bits.Reads as reads
-use Rattle.meaning.proofs.rows.bits.Lts as lts
-use Rattle.sample.proofs.stored.bit.Reads as bit-reads
 
 abbrev Inv-loop : tie.InvT-loop
 Inv-loop line columns out₀ k₀ out k = Filling (λ i. stored1 line (getD columns i 0)) (length columns) out₀ k out
@@ -15,51 +12,39 @@ Inv-loop line columns out₀ k₀ out k = Filling (λ i. stored1 line (getD colu
 abbrev μ-loop : tie.MeasureT-loop
 μ-loop line columns out₀ k₀ out k = length columns - k
 
--- src/rows.rt:52:5
 loop-holds : tie.Need-loop-holds Inv-loop μ-loop
 loop-holds c = search filling-begins
 
--- src/rows.rt:53:22
 mul-column : tie.Need-mul-column Inv-loop μ-loop
 mul-column c = omega arith
 
--- src/rows.rt:53:22
 shared-slice-read-column : tie.Need-shared-slice-read-column Inv-loop μ-loop
 shared-slice-read-column c = omega arith
 
--- src/rows.rt:53:22
 cast-column : tie.Need-cast-column Inv-loop μ-loop
 cast-column c = omega (arith, c .shared-slice-known3 .given (c .before .before .loop .k))
 
--- src/rows.rt:54:18
 bit-requires : tie.Need-bit-requires Inv-loop μ-loop
 bit-requires c κs = omega (arith, c .before .before .before .before .before .before .pre .1 (c .before .before .loop .k) (omega arith))
 
--- src/rows.rt:54:18
 cast-out : tie.Need-cast-out Inv-loop μ-loop
 cast-out c = omega arith
 
--- src/rows.rt:54:9
 slice-write-out : tie.Need-slice-write-out Inv-loop μ-loop
 slice-write-out c = omega (arith, c .before .before .before .loop .inv .room)
 
--- src/rows.rt:55:9
 add-k : tie.Need-add-k Inv-loop μ-loop
 add-k c = omega arith
 
--- src/rows.rt:52:5
 loop-less : tie.Need-loop-less Inv-loop μ-loop
 loop-less c = omega arith
 
--- src/rows.rt:52:5
 loop-again : tie.Need-loop-again Inv-loop μ-loop
 loop-again c = search filling-turns
 
--- src/rows.rt:47:1
 same-length : tie.Need-same-length Inv-loop μ-loop
 same-length c = c .before .loop .inv .filled .long
 
--- src/rows.rt:47:1
 returns : tie.Need-returns Inv-loop μ-loop
 returns c = search filling-ends
 

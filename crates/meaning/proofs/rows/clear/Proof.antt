@@ -4,8 +4,6 @@ use Prim.Native.Nat.{_-_}
 use mathlib.Core.Path.{refl}
 use Rattle.meaning.proofs.rows.clear.Statement.{statement}
 use Rattle.meaning.proofs.rows.clear.Tie as tie
-use Rattle.meaning.proofs.rows.clear.Reads as reads
-use Rattle.meaning.proofs.rows.clear.Lts as lts
 
 abbrev Inv-loop : tie.InvT-loop
 Inv-loop out₀ count k₀ out k = Filling (λ i. 0) count out₀ k out
@@ -13,35 +11,27 @@ Inv-loop out₀ count k₀ out k = Filling (λ i. 0) count out₀ k out
 abbrev μ-loop : tie.MeasureT-loop
 μ-loop out₀ count k₀ out k = count - k
 
--- src/rows.rt:29:5
 loop-holds : tie.Need-loop-holds Inv-loop μ-loop
 loop-holds c = search filling-begins
 
--- src/rows.rt:30:9
 mul-out : tie.Need-mul-out Inv-loop μ-loop
 mul-out c = omega arith
 
--- src/rows.rt:30:9
 slice-write-out : tie.Need-slice-write-out Inv-loop μ-loop
 slice-write-out c = omega (arith, c .before .loop .inv .room)
 
--- src/rows.rt:31:9
 add-k : tie.Need-add-k Inv-loop μ-loop
 add-k c = omega arith
 
--- src/rows.rt:29:5
 loop-less : tie.Need-loop-less Inv-loop μ-loop
 loop-less c = omega arith
 
--- src/rows.rt:29:5
 loop-again : tie.Need-loop-again Inv-loop μ-loop
 loop-again c = search (filling-turns, refl)
 
--- src/rows.rt:24:1
 same-length : tie.Need-same-length Inv-loop μ-loop
 same-length c = c .before .loop .inv .filled .long
 
--- src/rows.rt:24:1
 returns : tie.Need-returns Inv-loop μ-loop
 returns c = search filling-ends
 

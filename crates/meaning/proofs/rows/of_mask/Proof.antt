@@ -1,58 +1,41 @@
 use mathlib.Core.Path.{sym, _∙_}
 use denote.Ref.{now}
 use Rattle.dib.proofs.JudgeLaws.{sound}
-use Rattle.pixel.proofs.PlaceLaws.{remainder-lt}
 use Rattle.meaning.proofs.RowLaws.{mask-present, mask-none, mask-filled, line-reaches, bits-reach, mask-row-in}
 use native.Mathlib.Omega.{arith}
 use borrow.Author.Needs.{needs}
 use Rattle.meaning.proofs.rows.of_mask.Statement.{statement}
 use Rattle.meaning.proofs.rows.of_mask.Tie as tie
-use Rattle.meaning.proofs.rows.of_mask.Reads as reads
-use Rattle.meaning.proofs.rows.of_mask.Lts as lts
-use Rattle.emr.proofs.fields.is_absent.Reads as is-absent-reads
-use Rattle.meaning.proofs.columns.mask_column.Reads as mask-column-reads
-use Rattle.meaning.proofs.rows.bits.Reads as bits-reads
-use Rattle.meaning.proofs.rows.clear_bits.Reads as clear-bits-reads
-use Rattle.picture.proofs.row.Reads as row-reads
-use Rattle.words.proofs.magnitude.Reads as magnitude-reads
 
--- src/rows.rt:94:8
 is-absent-requires : tie.Need-is-absent-requires
 is-absent-requires c κs = search needs
 
--- src/rows.rt:95:9
 clear-bits-requires : tie.Need-clear-bits-requires
 clear-bits-requires c κs = search needs
 
--- src/rows.rt:96:9
 same-length : tie.Need-same-length
 same-length c = search needs
 
--- src/rows.rt:96:9
 returns : tie.Need-returns
 returns c =
     let a = c .before .before .before .before .before .before .before .before .before .before in
     mask-none _ (a .args .n) (a .pre .0 .0) (a .args .h) _ (a .pre .0 .1) (c .before .before .before .before .before .is-absent .ensures) (now (a .args .columns)) _ _ _ (c .before .before .before .before .if1 .taken) (c .before .before .clear-bits .ensures)
 
--- src/rows.rt:98:9
 magnitude-requires : tie.Need-magnitude-requires
 magnitude-requires c κs = search needs
 
--- src/rows.rt:99:9
 mask-column-requires : tie.Need-mask-column-requires
 mask-column-requires c κs =
     let a = c .before .before .before .before .before .before .before in
     let q = mask-present _ (a .args .n) (a .pre .0 .0) (a .args .h) _ (a .pre .0 .1) (c .before .before .is-absent .ensures) (c .before .if1 .left) in
     omega (arith, sound (a .args .h) (q .fields) .rows .0, c .magnitude .ensures)
 
--- src/rows.rt:100:9
 row-requires : tie.Need-row-requires
 row-requires c κs =
     let a = c .before .before .before .before .before .before .before .before in
     let q = mask-present _ (a .args .n) (a .pre .0 .0) (a .args .h) _ (a .pre .0 .1) (c .before .before .before .is-absent .ensures) (c .before .before .if1 .left) in
     ((q .bits-in, q .fields), (q .rows-in, mask-row-in (a .args .n .mask .y) (a .args .j) (a .args .h) _ _ (q .fields) (c .before .magnitude .ensures) (c .mask-column .ensures)))
 
--- src/rows.rt:101:5
 bits-requires : tie.Need-bits-requires
 bits-requires c κs =
     let a = c .before .before .before .before .before .before .before .before .before .before in
@@ -61,11 +44,9 @@ bits-requires c κs =
     let f = sym (c .before .before .before .before .before .is-absent .ensures) ∙ c .before .before .before .before .if1 .left in
     (a .pre .1 .0, bits-reach (a .args .h) (now (c .before .row .result)) (now (a .args .columns)) (q .fields) (line-reaches _ _ (a .args .h) (c .before .before .mask-column .result) _ (now (a .args .columns)) q r (c .before .row .ensures) (a .pre .1 .1 f)))
 
--- src/rows.rt:88:1
 same-length-2 : tie.Need-same-length-2
 same-length-2 c = search needs
 
--- src/rows.rt:88:1
 returns-2 : tie.Need-returns-2
 returns-2 c =
     let a = c .before .before .before .before .before .before .before .before .before .before .before .before .before in

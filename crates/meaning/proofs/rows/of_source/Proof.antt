@@ -10,40 +10,27 @@ use native.Mathlib.Omega.{arith}
 use borrow.Author.Needs.{needs}
 use Rattle.meaning.proofs.rows.of_source.Statement.{statement}
 use Rattle.meaning.proofs.rows.of_source.Tie as tie
-use Rattle.meaning.proofs.rows.of_source.Reads as reads
-use Rattle.meaning.proofs.rows.of_source.Lts as lts
-use Rattle.emr.proofs.fields.is_absent.Reads as is-absent-reads
-use Rattle.fetch.proofs.row.Reads as row-reads
-use Rattle.meaning.proofs.columns.source_column.Reads as source-column-reads
-use Rattle.meaning.proofs.rows.clear.Reads as clear-reads
-use Rattle.picture.proofs.row.Reads as row-reads′
 
--- src/rows.rt:78:8
 is-absent-requires : tie.Need-is-absent-requires
 is-absent-requires c κs = search needs
 
--- src/rows.rt:79:9
 clear-requires : tie.Need-clear-requires
 clear-requires c κs = search needs
 
--- src/rows.rt:80:9
 same-length : tie.Need-same-length
 same-length c = search needs
 
--- src/rows.rt:80:9
 returns : tie.Need-returns
 returns c =
     let a = c .before .before .before .before .before .before .before .before .before .before in
     source-none _ (a .args .n) (a .pre .0 .0) (a .args .h) _ (a .pre .0 .1) (c .before .before .before .before .before .is-absent .ensures) (now (a .args .columns)) _ _ _ (c .before .before .before .before .if1 .taken) (c .before .before .clear .ensures)
 
--- src/rows.rt:82:9
 source-column-requires : tie.Need-source-column-requires
 source-column-requires c κs =
     let a = c .before .before .before .before .before .before in
     let i = source-inside _ (a .args .n) (a .pre .0 .0) (a .args .h) _ (a .pre .0 .1) (c .before .is-absent .ensures) (c .if1 .left) in
     ((a .pre .1 .1 .1 .0, i .cy .0), (i .lines .0, i .cy .1))
 
--- src/rows.rt:83:9
 row-requires : tie.Need-row-requires
 row-requires c κs =
     let a = c .before .before .before .before .before .before .before in
@@ -52,7 +39,6 @@ row-requires c κs =
     let r = column-inside (a .args .n .source .y) (a .args .n .«cy_src») (a .args .n .cy) (a .args .j) (rows (a .args .h)) (a .pre .1 .1 .1 .0) (i .cy .0) (i .lines .1) in
     ((q .bits-in, q .fields), (q .rows-in, omega (arith, r, c .source-column .ensures)))
 
--- src/rows.rt:84:5
 row-requires-2 : tie.Need-row-requires-2
 row-requires-2 c κs =
     let a = c .before .before .before .before .before .before .before .before .before in
@@ -65,11 +51,9 @@ row-requires-2 c κs =
       (a .pre .1 .1 .0 .0, a .pre .1 .1 .0 .2, λ _. sampled (a .args .h) (isFormat1 (a .args .n .kind) (a .args .n .operation)) (a .args .m) m (a .pre .1 .0)),
     )
 
--- src/rows.rt:60:1
 same-length-2 : tie.Need-same-length-2
 same-length-2 c = search needs
 
--- src/rows.rt:60:1
 returns-2 : tie.Need-returns-2
 returns-2 c =
     let a = c .before .before .before .before .before .before .before .before .before .before .before .before in
