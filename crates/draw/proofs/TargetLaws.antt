@@ -1,8 +1,8 @@
 -- What the rows of a clipped target are drawn from is there. Assumes nothing.
-use mathlib.Core.Path.{_≡_, refl, sym, ap, _∙_, subst}
+use mathlib.Core.Path.{_≡_, sym, ap, _∙_, subst}
 use mathlib.Core.Bool.{false}
 use mathlib.Core.List.{List, []}
-use Prim.Native.Nat.{ℕ, _+_, _*_, _≤_, _<_}
+use Prim.Native.Nat.{ℕ, _+_, _≤_, _<_}
 use native.Mathlib.Omega.{arith}
 use lib.ListN.{length, getD, take}
 use lib.Seq.{sets, getD-take, length-take-le}
@@ -16,7 +16,7 @@ use Rattle.region.specs.declared.Rectangle.{Rectangle}
 use Rattle.region.specs.Target.{Place, block, placesIn, targetOf}
 use Rattle.region.proofs.TargetLaws.{On, inside, Numbered, numbered, block-none}
 use Rattle.journal.specs.Drawing.{Paint, drawn}
-use Rattle.journal.specs.Records.{stride, bytesOf, saved}
+use Rattle.journal.specs.Records.{bytesOf, saved}
 use Rattle.meaning.specs.Sampling.{sourceColumn}
 use Rattle.meaning.specs.Meaning.{boundsOf}
 use Rattle.draw.specs.Ready.{Lies, Mapped}

@@ -2,15 +2,13 @@
 use mathlib.Core.Path.{_≡_}
 use mathlib.Core.Bool.{false}
 use mathlib.Core.List.{List}
-use Prim.Native.Nat.{ℕ, _+_, _*_, _≤_, _<_}
+use Prim.Native.Nat.{ℕ, _+_, _≤_, _<_}
 use lib.ListN.{length, getD}
 use Rattle.words.specs.Bytes.{magnitude32, signed32}
 use Rattle.pixel.specs.Place.{maskPixel}
-use Rattle.dib.specs.declared.Header.{Header}
 use Rattle.emr.specs.declared.Numbers.{Numbers}
 use Rattle.emr.specs.Numbers.{absent}
-use Rattle.judge.specs.declared.Checked.the-variants.{Accepted}
-use Rattle.judge.specs.Judged.{headerIn, checkOf}
+use Rattle.judge.specs.Judged.{headerIn}
 use Rattle.region.specs.declared.Target.{Target}
 use Rattle.meaning.specs.Sampling.{sourceColumn}
 

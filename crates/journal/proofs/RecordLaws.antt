@@ -1,13 +1,12 @@
 -- The journal's records as bytes, and lengths that drawing keeps. Assumes nothing.
-use mathlib.Core.Path.{_≡_, refl, sym, ap, _∙_}
+use mathlib.Core.Path.{_≡_, refl, ap, _∙_}
 use mathlib.Core.List.{List, [], _∷_, _++_}
 use Prim.Native.Nat.{ℕ, suc, _+_, _*_}
 use native.Mathlib.Omega.{arith}
 use native.Mathlib.Numerals.{towards-suc}
-use lib.ListN.{length, getD, set, length-set, length-append}
+use lib.ListN.{length, getD, length-set}
 use lib.Seq.{sets}
 use Rattle.words.specs.Bytes.{bytes32}
-use Rattle.words.proofs.ListLaws.{sets-append}
 use Rattle.region.specs.Target.{Place}
 use Rattle.journal.specs.Drawing.{index, Paint, dot, drawn}
 use Rattle.journal.specs.Records.{stride, Entry, entry, entryBytes, bytesOf, saved}

@@ -2,7 +2,7 @@
 -- wanted. It holds for every rule of what a pixel becomes. Assumes nothing.
 use mathlib.Core.Path.{_≡_, refl, sym, ap, _∙_, subst}
 use mathlib.Core.List.{List, [], _∷_, _++_}
-use Prim.Native.Nat.{ℕ, zero, suc, _+_, _-_, _*_, _≤_, _<_}
+use Prim.Native.Nat.{ℕ, suc, _+_, _-_, _*_, _≤_, _<_}
 use native.Mathlib.Omega.{arith}
 use native.Mathlib.Nat.{add-zero, sub-zero, mul-add}
 use lib.ListN.{length, getD, set, length-set}
@@ -11,7 +11,7 @@ use Rattle.words.proofs.ListLaws.{sets-append}
 use Rattle.region.specs.Target.{Place, row, block}
 use Rattle.region.proofs.TargetLaws.{length-row}
 use Rattle.journal.specs.Drawing.{index, Paint, dot, drawn}
-use Rattle.journal.specs.Records.{stride, Entry, entry, entryBytes, bytesOf, saved}
+use Rattle.journal.specs.Records.{stride, entryBytes, bytesOf, saved}
 use Rattle.journal.proofs.RecordLaws.{length-bytes, bytes-append, length-drawn, length-saved, drawn-append, saved-append}
 
 -- surface s and journal j, with the places ps still to draw and their records from i on, come to what s₀ and j₀ come to with ps₀ and i₀

@@ -1,5 +1,5 @@
 -- What an undo (document 01: a take-back) answers and leaves. Definitions only.
-use Prim.Native.Nat.{ℕ, _+_, _-_}
+use Prim.Native.Nat.{ℕ, _-_}
 use mathlib.Core.Bool.{Bool, not, _||_}
 use mathlib.Core.List.{List}
 use lib.Dec.{eqb, ltb}

@@ -6,7 +6,6 @@ use native.Mathlib.Omega.{arith}
 use lib.Dec.{leb, ltb}
 use borrow.Author.Tests.{le-leb, lt-leb, leb-true, leb-false, le-ltb, lt-ltb}
 use Rattle.words.specs.Bytes.{negative32, magnitude32}
-use Rattle.words.specs.Choice.{pick}
 use Rattle.words.proofs.ChoiceLaws.{picked-true, picked-false}
 use Rattle.pixel.specs.Place.{sourcePlace}
 use Rattle.pixel.proofs.PlaceLaws.{column-lt}

@@ -4,12 +4,11 @@ use mathlib.Core.Bool.{Bool, true, false, not, _||_, _&&_}
 use mathlib.Core.List.{List}
 use Prim.Native.Nat.{ℕ, _+_, _-_, _^_, _≤_, _<_}
 use native.Mathlib.Omega.{arith}
-use lib.Dec.{ltb, leb, lit<}
+use lib.Dec.{ltb, lit<}
 use borrow.Author.Tests.{ltb-false, leb-false}
 use Rattle.words.specs.Bytes.{negative32, magnitude32}
 use Rattle.words.specs.Choice.{pick}
-use Rattle.words.proofs.ChoiceLaws.{given-none, or-none, and-true, picked-true, picked-false}
-use Rattle.pixel.specs.Place.{sourcePlace}
+use Rattle.words.proofs.ChoiceLaws.{given-none, or-none, and-true}
 use Rattle.dib.specs.declared.Header.{Header}
 use Rattle.dib.specs.Header.{rows}
 use Rattle.emr.specs.declared.Numbers.{Numbers}

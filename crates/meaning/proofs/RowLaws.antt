@@ -18,12 +18,12 @@ use Rattle.dib.specs.Judged.{badFields, badMasks, bitsNeeded}
 use Rattle.dib.proofs.JudgeLaws.{sound, passed-fields, depth-bounds}
 use Rattle.sample.specs.declared.Masks.{Masks}
 use Rattle.sample.specs.Stored.{stored1, stored, storedRow, rowBytes}
-use Rattle.sample.specs.Colour.{masksOf, Sampled, shown}
+use Rattle.sample.specs.Colour.{masksOf, shown}
 use Rattle.sample.specs.At.{pixelAt}
-use Rattle.sample.proofs.AtLaws.{sampled, column-in}
+use Rattle.sample.proofs.AtLaws.{column-in}
 use Rattle.emr.specs.declared.Picture.{Picture}
 use Rattle.emr.specs.declared.Numbers.{Numbers}
-use Rattle.emr.specs.Numbers.{absent, headerPart, bitsPart}
+use Rattle.emr.specs.Numbers.{absent, bitsPart}
 use Rattle.judge.specs.declared.Checked.the-variants.{Accepted}
 use Rattle.judge.specs.Judged.{headerIn, checkOf}
 use Rattle.judge.proofs.AcceptedLaws.{Fit, accepted}
@@ -33,7 +33,7 @@ use Rattle.fetch.specs.Fetched.{fetched, InLine}
 use Rattle.meaning.specs.declared.Plan.{Plan}
 use Rattle.meaning.specs.Sampling.{isFormat1, sourceColumn, sourceShown, maskShown}
 use Rattle.meaning.specs.Reading.{InPicture, planOf}
-use Rattle.meaning.proofs.FitLaws.{SourceIn, source-fits, column-inside}
+use Rattle.meaning.proofs.FitLaws.{SourceIn, source-fits}
 
 -- one rule for another that agrees with it
 pub filled-by : (f g : ℕ → ℕ) (n : ℕ) (d₀ d : List ℕ) → ((k : ℕ) → k < n → f k ≡ g k) → Filled f d₀ n d → Filled g d₀ n d

@@ -1,6 +1,5 @@
 -- What an accepted record means, as a value: drawing is defined on it and never looks at the record's bytes. Definitions only.
 use Prim.Native.Nat.{ℕ, _+_, _-_}
-use mathlib.Core.Bool.{Bool}
 use mathlib.Core.List.{List}
 use lib.Dec.{eqb}
 use Rattle.words.specs.Choice.{pick}

@@ -7,11 +7,9 @@ use lib.Dec.{eqb}
 use Rattle.words.specs.Choice.{pick}
 use Rattle.words.specs.Bytes.{negative32, magnitude32, signed32}
 use Rattle.pixel.specs.Place.{rowLength, sourcePlace, maskPixel}
-use Rattle.dib.specs.declared.Header.{Header}
 use Rattle.dib.specs.Header.{topDown, rows}
 use Rattle.sample.specs.Stored.{stored1, storedRow, rowBytes}
 use Rattle.sample.specs.At.{pixelAt}
-use Rattle.emr.specs.declared.Picture.{Picture}
 use Rattle.emr.specs.declared.Numbers.{Numbers}
 use Rattle.emr.specs.Numbers.{absent, bitsPart}
 use Rattle.judge.specs.Operation.{alphaFormat}

@@ -1,18 +1,18 @@
 -- Condition 2 pixel by pixel. Assumes nothing.
-use mathlib.Core.Path.{_≡_, sym, ap, ap₂, _∙_, subst}
+use mathlib.Core.Path.{_≡_, subst}
 use mathlib.Core.List.{List}
 use Prim.Native.Nat.{ℕ, _+_, _-_, _*_, _≤_, _<_}
 use native.Mathlib.Nat.{mul-comm, mul-le-mul-right}
 use native.Mathlib.Omega.{arith}
-use lib.ListN.{length, getD}
+use lib.ListN.{length}
 use Rattle.region.specs.declared.Target.{Target}
 use Rattle.region.specs.Target.{placesIn}
 use Rattle.region.proofs.TargetLaws.{On, inside, length-places}
-use Rattle.journal.specs.Drawing.{index, Paint, drawn}
+use Rattle.journal.specs.Drawing.{Paint, drawn}
 use Rattle.journal.proofs.PointwiseLaws.{drawn-inside, drawn-outside, saved-before}
 use Rattle.meaning.specs.Meaning.{Meaning, meaningOf, paintOn, targetIn, workOf}
-use Rattle.player.specs.Calls.{Play, work}
-use Rattle.player.specs.Pixels.{Covers, pixel, Pixels, PixelByPixel}
+use Rattle.player.specs.Calls.{work}
+use Rattle.player.specs.Pixels.{Covers, pixel, PixelByPixel}
 
 -- a target on the surface, drawn by any rule
 module _ (w h : ℕ) (f : Paint) (t : Target) (on : On w (t .columns) × On h (t .rows)) (s : List ℕ) where

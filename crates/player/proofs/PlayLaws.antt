@@ -9,7 +9,7 @@ use lib.ListN.{length}
 use lib.Seq.{sets}
 use lib.Dec.{ltb}
 use borrow.Author.Tests.{lt-ltb, le-ltb}
-use Rattle.words.specs.Choice.{given, orElse}
+use Rattle.words.specs.Choice.{orElse}
 use Rattle.words.proofs.ListLaws.{sets-append}
 use Rattle.words.proofs.ChoiceLaws.{picked-true, picked-false}
 use Rattle.emr.specs.declared.Numbers.{Numbers}
@@ -24,11 +24,11 @@ use Rattle.region.specs.declared.Rectangle.{Rectangle}
 use Rattle.region.specs.Target.{placesIn, targetOf}
 use Rattle.region.proofs.TargetLaws.{On, inside, length-places}
 use Rattle.journal.specs.Drawing.{Work, drawn}
-use Rattle.journal.specs.Records.{stride, Entry, entryBytes, bytesOf, saved, closing}
+use Rattle.journal.specs.Records.{stride, entryBytes, bytesOf, saved, closing}
 use Rattle.journal.proofs.RecordLaws.{length-bytes, bytes-append, length-saved}
-use Rattle.lent.specs.Lent.{Lent, lent, Outcome, outcome, settle, limits, records}
+use Rattle.lent.specs.Lent.{lent, Outcome, outcome, settle, limits}
 use Rattle.lent.specs.Playing.{counted, drawnBy, appended, played, roomStatus, playOf}
-use Rattle.lent.proofs.LimitLaws.{Passed, passed, area}
+use Rattle.lent.proofs.LimitLaws.{Passed, passed}
 use Rattle.meaning.specs.Meaning.{meaningIn, meaningOf, boundsOf, paintOn, workOf}
 use Rattle.player.specs.declared.Answer.{Answer}
 use Rattle.player.specs.Calls.{playWith, work, play, accepted}
