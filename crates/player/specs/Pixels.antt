@@ -25,8 +25,8 @@ pixel width s x y = getD s (index width x y) 0
 
 -- the play p on the surface s, whose record means k and whose clipped target is t
 pub record Pixels (width height : ℕ) (p : Play) (s : List ℕ) (k : Meaning) (t : Target) : Type 0 where
-  -- "each pixel of its clipped target becomes the number the published equations or raster operation define": of the OLD pixel, and of
-  -- the source pixel and mask bit of its column and row in the whole target
+  -- "each pixel of the clipped target the number the published equations or raster operation define": of the OLD pixel, and of the
+  -- source pixel and mask bit of its column and row in the whole target
   pub inside : (x y : ℕ) → Covers t x y
       → pixel width (drawnBy width (work width height p) s) x y
       ≡ paintedBy (k .rule (p .brush)) (k .source (within (t .columns) x) (within (t .rows) y)) (k .bit (within (t .columns) x) (within (t .rows) y)) (pixel width s x y)
