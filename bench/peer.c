@@ -7,11 +7,11 @@
 #include <string.h>
 #include <time.h>
 
-enum { SIDE = 4096, ROUNDS = 7 };
+enum { SIDE = 4096, ROUNDS = 11 };
 
 static double now(void) {
     struct timespec t;
-    clock_gettime(CLOCK_MONOTONIC, &t);
+    clock_gettime(CLOCK_PROCESS_CPUTIME_ID, &t);
     return (double)t.tv_sec + (double)t.tv_nsec * 1e-9;
 }
 

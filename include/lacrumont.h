@@ -1,10 +1,11 @@
 /* Lacrumont: plays EMF bitmap records onto a surface, journals every old pixel, and takes plays back to the last pixel.
  *
- * Link with liblacrumont.a (x86-64). Nothing else is needed: no heap, no globals, no threads, no input or output, no errno.
+ * Link with liblacrumont.a: x86-64, ELF, the System V calling convention; it goes into position-independent programs too. It
+ * needs memcpy and memset of the C library and nothing else: no heap, no globals, no threads, no input or output, no errno.
  *
  * Every call takes every input: it ends, and does nothing undefined, whatever the bytes are. What must hold of the pointers:
- *   - each points to as many elements as the length behind it says, aligned as its type asks (a length of 0 may go with any
- *     non-null, aligned pointer);
+ *   - each points to as many elements as the length behind it says, `used` and `pixels` to one, aligned as its type asks;
+ *   - none is null, also where its length is 0: any aligned address will do there;
  *   - what a call may write (surface, journal, used, pixels, out) overlaps nothing else that is lent to the same call;
  *   - nobody else writes the lent memory during the call, nor reads what the call writes.
  * Calls on memory of their own may run at the same time. A call keeps no pointer.
@@ -13,7 +14,9 @@
  * calls use less than 8 KiB. There is no recursion.
  *
  * A surface is width by height 32-bit pixels, row by row from the top: alpha << 24 | red << 16 | green << 8 | blue.
- * A journal is records of 12 bytes: three 32-bit little-endian numbers. `used` counts those in use; it starts at 0.
+ * A journal is records of 12 bytes: three 32-bit little-endian numbers. `used` counts those in use; it starts at 0. A play needs
+ * as many records as it draws pixels, and one more, also where it draws none: room for width * height + 1 takes any one play. A
+ * play that finds no room (14) changes nothing, so a larger journal with the same records may be lent and the play tried again.
  */
 #ifndef LACRUMONT_H
 #define LACRUMONT_H
@@ -24,6 +27,13 @@
 #ifdef __cplusplus
 extern "C" {
 #endif
+
+enum {
+    LACRUMONT_MOST_SIDE = 4096,             /* of a surface */
+    LACRUMONT_MOST_RECORD = 16777216,       /* bytes of an EMF record */
+    LACRUMONT_MOST_JOURNAL = 20000000,      /* records of a journal */
+    LACRUMONT_JOURNAL_RECORD = 12           /* bytes of a journal record */
+};
 
 /* What a call answers. The lowest number that applies is given, exactly where it applies. A refused call changes no byte of the
  * surface and of the journal and not the count in use, and counts 0 pixels. */
@@ -48,7 +58,11 @@ enum lacrumont_status {
 };
 
 /* Plays the record, cut to the clip (left, top, right, bottom; right and bottom not included; any numbers) with the brush's low
- * 24 bits (red << 16 | green << 8 | blue). Statuses 0 to 14.
+ * 24 bits (red << 16 | green << 8 | blue). Statuses 0 to 14. An empty or inverted clip is accepted.
+ *
+ * The clipped target is the record's target as far as it lies in the clip and on the surface; it is empty where the record's
+ * Bounds (both corners included) do not meet the clip on the surface. An alpha blend blends the surface's alpha with its colours; a
+ * mask blit and a stretched DIB leave it.
  *
  * Accepted: every pixel of the clipped target is drawn, and the journal gets, from record *used on, one record for each (column,
  * row, old pixel; row by row, left to right) and a closing one (0xFFFFFFFF, their number, the record's type). *used grows by
@@ -58,7 +72,7 @@ uint32_t lacrumont_play(uint32_t *surface, size_t surface_len, uint32_t width, u
                         int32_t bottom, uint32_t brush, uint32_t *pixels);
 
 /* Undoes the last play in the journal: restores its pixels from last to first, and lowers *used past its records. The journal is
- * only read. *pixels is the number restored. Statuses 0, 1, 2, 15, 16; all records are tested before one pixel is restored. */
+ * only read. *pixels is the number restored, 0 where the undo is refused. Statuses 0, 1, 2, 15, 16; all records are tested before one pixel is restored. */
 uint32_t lacrumont_undo(uint32_t *surface, size_t surface_len, uint32_t width, uint32_t height, const uint8_t *journal,
                         size_t journal_len, uint64_t *used, uint32_t *pixels);
 
@@ -81,7 +95,8 @@ enum lacrumont_number {
     LACRUMONT_NUMBERS = 13
 };
 
-/* Reads the record's source (mask 0) or mask (any other number). Statuses 0 and 3 to 13: the whole record is judged. */
+/* Reads the record's source (mask 0) or mask (any other number). Statuses 0 and 3 to 13: the whole record is judged. A picture is
+ * absent where its four offset and size fields are 0; the types 0x72 and 0x51 have no mask. */
 uint32_t lacrumont_read(const uint8_t *record, size_t record_len, uint32_t mask, uint64_t out[LACRUMONT_NUMBERS]);
 
 /* Its palette: 256 colours, red << 16 | green << 8 | blue; black where the table has no entry, where the picture has more than 8

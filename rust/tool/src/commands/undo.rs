@@ -1,0 +1,97 @@
+//! `lacrumont undo`: takes the journal's last plays back.
+
+use std::ffi::OsString;
+
+use super::arguments::Known;
+use super::play::write_both;
+use super::{Out, FINE};
+use crate::files;
+use crate::journal::Journal;
+use crate::library::NOTHING;
+use crate::progress::Progress;
+use crate::{sheet, words};
+
+const KNOWN: Known = Known { command: "undo", valued: &["-o", "--journal", "--plays"], flags: &["--all", "--force"] };
+
+const HELP: &str = "\
+lacrumont undo SHEET --journal FILE -o OUT [--plays N | --all] [--force]
+
+Takes back the last play in the journal, or the last N, or all, and writes OUT and the shortened journal. SHEET must
+be the sheet as the plays left it; if it is not, nothing is changed.
+
+  --journal FILE   the journal that play has written
+  -o OUT           the file to write, .png or .bmp
+  --plays N        takes back N plays
+  --all            takes back all plays
+  --force          writes over OUT if it is there
+
+Exit code: 0 all went well, 1 an error of files or use.
+";
+
+pub fn run(arguments: &[OsString], out: &mut Out) -> Result<u8, String> {
+    let parsed = KNOWN.parse(arguments)?;
+    if parsed.help {
+        out.text(HELP);
+        return Ok(FINE);
+    }
+    let [sheet_path] = &parsed.plain[..] else {
+        return Err(KNOWN.wrong("undo needs one sheet"));
+    };
+    let out_path = parsed.path("-o").ok_or_else(|| KNOWN.wrong("-o OUT is missing"))?;
+    let journal_path = parsed.path("--journal").ok_or_else(|| KNOWN.wrong("--journal FILE is missing"))?;
+    let force = parsed.has("--force");
+    let asked = match (parsed.text("--plays"), parsed.has("--all")) {
+        (Some(_), true) => return Err(KNOWN.wrong("--plays and --all cannot go together")),
+        (Some(text), false) => Some(plays(&text)?),
+        (None, true) => None,
+        (None, false) => Some(1),
+    };
+    sheet::format(&out_path)?;
+    for (path, what) in [(sheet_path, "the sheet"), (&out_path, "OUT")] {
+        if files::same(&journal_path, path) {
+            return Err(format!("{} cannot be the journal and {what} at once", journal_path.display()));
+        }
+    }
+    files::check_free(&out_path, force)?;
+
+    let mut progress = Progress::new();
+    let mut sheet = sheet::load(sheet_path, &mut progress)?;
+    let mut journal =
+        Journal::load(&journal_path, &sheet).map_err(|refusal| format!("{}. Nothing was changed", refusal.words()))?;
+    let held = journal.plays().unwrap_or(0);
+    let name = journal_path.display();
+    if held == 0 {
+        return Err(format!("{name}: {}", words::numbered(NOTHING)));
+    }
+    let count = asked.unwrap_or(held);
+    if count > held {
+        let held = words::things(held, "play");
+        return Err(format!(
+            "{name} holds {held}, fewer than the {} asked for. Nothing was changed",
+            words::count(count)
+        ));
+    }
+    for done in 0..count {
+        let number = held - done;
+        let pixels = journal
+            .undo(&mut sheet.surface)
+            .map_err(|status| format!("{name}: play {number}: {}. Nothing was changed", words::numbered(status)))?;
+        out.line(&format!("play {number} taken back: {}", words::things(pixels.into(), "pixel")));
+        progress.tell("taking back", done as usize + 1, count as usize);
+    }
+    write_both(&sheet, &out_path, force, &journal, Some(&journal_path), true, &mut progress)?;
+    let left = words::things(held - count, "play");
+    out.line(&format!(
+        "{} taken back; wrote {}; journal {name} holds {left}",
+        words::things(count, "play"),
+        out_path.display()
+    ));
+    Ok(FINE)
+}
+
+fn plays(text: &str) -> Result<u64, String> {
+    match text.parse() {
+        Ok(count) if count > 0 => Ok(count),
+        _ => Err(format!("--plays needs a number from 1 on, not {text}")),
+    }
+}

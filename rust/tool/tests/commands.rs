@@ -1,0 +1,298 @@
+//! The commands on whole files.
+
+mod common;
+
+use common::*;
+use lacrumont_tool::sheet::Sheet;
+
+/// A folder with sheet.png, sheet.bmp (24 bits), deep.bmp (32 bits) and some EMF files.
+fn prepared(name: &str) -> Folder {
+    let folder = Folder::new(name);
+    folder.put_sheet("sheet.png", &noisy_sheet(40, 30, true));
+    folder.put_sheet("sheet.bmp", &noisy_sheet(41, 30, false));
+    folder.put_sheet("deep.bmp", &noisy_sheet(39, 31, true));
+    folder
+        .put("a.emf", &emf(&[blend_record([3, 4, 20, 10], 0x8040_2010), other_record(), mask_record([0, 0, 33, 30])]));
+    folder.put("b.emf", &emf(&[stretch_record([10, 2, 25, 27], 0x88), brush_record([39, 29, 500, 500])]));
+    let mut wrong = blend_record([0, 0, 5, 5], 0);
+    wrong[40] = 1;
+    folder.put("refused.emf", &emf(&[brush_record([0, 0, 2, 2]), wrong, mask_record([5, 5, 3, 3])]));
+    folder
+}
+
+fn pixel(sheet: &Sheet, x: u32, y: u32) -> u32 {
+    sheet.surface.pixels[(y * sheet.surface.width + x) as usize]
+}
+
+#[test]
+fn help_and_version() {
+    let folder = Folder::new("help_and_version");
+    let version = folder.run("--version").expect(0).out;
+    assert_eq!(version, format!("lacrumont {}\n", env!("CARGO_PKG_VERSION")));
+    assert!(folder.run("--help").expect(0).out.contains("lacrumont play SHEET"));
+    for command in ["info", "play", "undo"] {
+        let help = folder.run(&format!("{command} --help")).expect(0).out;
+        assert!(help.starts_with(&format!("lacrumont {command} ")) && help.contains("Exit code"));
+        assert!(help.lines().all(|line| line.chars().count() <= 120));
+    }
+}
+
+#[test]
+fn wrong_use() {
+    let folder = prepared("wrong_use");
+    let before = folder.names();
+    folder.run("").fails("no command is given");
+    folder.run("draw").fails("there is no command draw");
+    folder.run("info").fails("info needs one file");
+    folder.run("play sheet.png -o out.png").fails("one or more EMF files");
+    folder.run("play sheet.png a.emf").fails("-o OUT is missing");
+    folder.run("play sheet.png a.emf -o out.jpg").fails(".png or .bmp");
+    folder.run("play sheet.png a.emf -o out.png --clip 1,2,3").fails("--clip needs four whole numbers");
+    folder.run("play sheet.png a.emf -o out.png --brush red").fails("--brush needs six hexadecimal digits");
+    folder.run("play sheet.png a.emf -o out.png --quick").fails("there is no option --quick");
+    folder.run("play none.png a.emf -o out.png").fails("cannot read none.png");
+    folder.run("play sheet.png none.emf -o out.png").fails("cannot read none.emf");
+    folder.run("play a.emf a.emf -o out.png").fails(".png or .bmp");
+    folder.run("play sheet.png a.emf -o nowhere/out.png").fails("cannot write nowhere/out.png");
+    folder.run("undo sheet.png -o out.png").fails("--journal FILE is missing");
+    folder.run("undo sheet.png --journal j").fails("-o OUT is missing");
+    folder.run("undo sheet.png --journal j -o out.png").fails("cannot read j");
+    folder.run("undo sheet.png --journal j -o out.png --plays 0").fails("a number from 1 on");
+    folder.run("undo sheet.png --journal j -o out.png --plays 1 --all").fails("cannot go together");
+    assert_eq!(folder.names(), before);
+}
+
+#[test]
+fn info_lists_bitmap_records() {
+    let folder = prepared("info_lists_bitmap_records");
+    let out = folder.run("info a.emf").expect(0).out;
+    let lines: Vec<&str> = out.lines().collect();
+    assert_eq!(lines.len(), 4);
+    let bounds = "Bounds 0, 0, 4095, 4095";
+    let good = "status 0: can be played";
+    let blend = format!("offset 88: alpha blend (0x72), Size 152, {bounds}; source 1 by 1, 32 bits; {good}");
+    let mask = format!("offset 252: mask blit (0x4E), Size 184, {bounds}; mask 8 by 2, 1 bit; {good}");
+    assert_eq!(lines[1..3], [blend, mask]);
+    assert_eq!(lines[3], "2 bitmap records, all can be played; 1 other record skipped");
+    let out = folder.run("info refused.emf").expect(2).out;
+    assert!(out.contains("status 11: the blend's operation"));
+    assert!(out.contains("3 bitmap records, 1 would be refused; 0 other records skipped"));
+    folder.put("short.emf", &emf(&[vec![0x72, 0, 0, 0, 8, 0, 0, 0]]));
+    assert!(folder.run("info short.emf").expect(2).out.contains("Size 8, no Bounds; status 5"));
+}
+
+#[test]
+fn damaged_files_are_errors() {
+    let folder = prepared("damaged_files_are_errors");
+    let damage = |at: usize, value: u32| {
+        let mut file = emf(&[brush_record([0, 0, 2, 2]), brush_record([0, 0, 2, 2])]);
+        file[at..at + 4].copy_from_slice(&value.to_le_bytes());
+        file
+    };
+    let cut = |length: usize| emf(&[brush_record([0, 0, 2, 2])])[..length].to_vec();
+    let cases = [
+        (damage(172, 0), "offset 168: the record's Size is 0; 8 is the least"),
+        (damage(172, 82), "offset 168: the record's Size is 82, not a multiple of 4"),
+        (damage(172, 104), "offset 168: the record's Size is 104, but the file has 100 bytes left"),
+        (damage(172, 0xFFFF_FFFC), "but the file has 100 bytes left"),
+        (damage(0, 2), "the first record has type 2, not 1 (header)"),
+        (damage(40, 0), "no \" EMF\" at byte 40"),
+        (damage(248, 15), "the file ends at 268 without an EOF record (type 14)"),
+        (cut(170), "offset 168: 2 bytes left, too few for a record"),
+        (cut(0), "offset 0: 0 bytes left, too few for a record"),
+    ];
+    for (file, words) in cases {
+        folder.put("damaged.emf", &file);
+        folder.run("info damaged.emf").fails(words);
+        // The file before it is whole, but nothing of it may be drawn either.
+        folder.run("play sheet.png a.emf damaged.emf -o out.png --journal j").fails(words);
+        assert!(!folder.has("out.png") && !folder.has("j"));
+    }
+    let listed = folder.run("info damaged.emf").expect(1).out;
+    assert_eq!(listed, "damaged.emf: 0 bytes\n");
+    folder.put("damaged.emf", &damage(172, 0));
+    assert!(folder.run("info damaged.emf").expect(1).out.contains("offset 88: stretched DIB"));
+    let mut long = folder.get("a.emf");
+    long.extend([0; 5]);
+    folder.put("long.emf", &long);
+    assert!(folder.run("info long.emf").expect(0).err.contains("5 bytes behind the EOF record"));
+}
+
+#[test]
+fn plays_draw_what_the_records_say() {
+    let folder = prepared("plays_draw_what_the_records_say");
+    let before = folder.get_sheet("sheet.png");
+    folder.put("one.emf", &emf(&[brush_record([2, 3, 10, 10])]));
+    let ended = folder.run("play sheet.png one.emf -o out.png --brush #3060C0 --clip=-9,5,6,7").expect(0);
+    assert!(ended.out.contains("one.emf: offset 88: stretched DIB (0x51): 8 pixels\n"), "{ended:?}");
+    assert!(ended.out.contains("1 play, 0 refused, 0 other records skipped; wrote out.png"));
+    assert!(ended.err.is_empty());
+    let after = folder.get_sheet("out.png");
+    for y in 0..30 {
+        for x in 0..40 {
+            let drawn = (2..6).contains(&x) && (5..7).contains(&y);
+            let old = pixel(&before, x, y);
+            assert_eq!(pixel(&after, x, y), if drawn { old & 0xFF00_0000 | 0x3060C0 } else { old });
+        }
+    }
+    // Format 1 with a clear pixel keeps all; with a solid one it copies.
+    folder.put("two.emf", &emf(&[blend_record([0, 0, 40, 30], 0), blend_record([1, 1, 1, 1], 0xFF12_3456)]));
+    folder.run("play sheet.png two.emf -o two.png").expect(0);
+    let after = folder.get_sheet("two.png");
+    assert_eq!(pixel(&after, 1, 1), 0xFF12_3456);
+    assert_eq!(pixel(&after, 2, 1), pixel(&before, 2, 1));
+    // The mask's top row is 0xAA: the brush at columns 0, 2, 4, 6.
+    folder.put("mask.emf", &emf(&[mask_record([0, 0, 40, 1])]));
+    folder.run("play sheet.bmp mask.emf -o mask.bmp --brush 010203").expect(0);
+    let (before, after) = (folder.get_sheet("sheet.bmp"), folder.get_sheet("mask.bmp"));
+    for x in 0..40 {
+        let new = if x % 2 == 0 { 0xFF01_0203 } else { pixel(&before, x, 0) };
+        assert_eq!(pixel(&after, x, 0), new);
+    }
+}
+
+/// Plays, then all taken back: the file is the one at the beginning, byte for byte.
+#[test]
+fn undo_gives_the_sheet_back() {
+    let folder = prepared("undo_gives_the_sheet_back");
+    for (sheet, ending) in [("sheet.png", "png"), ("sheet.bmp", "bmp"), ("deep.bmp", "bmp")] {
+        let run = |text: &str| folder.run(&text.replace("EXT", ending));
+        let ended = run(&format!("play {sheet} a.emf b.emf -o after.EXT --journal j --brush 905010")).expect(0);
+        assert!(ended.out.contains("4 plays, 0 refused, 1 other record skipped"));
+        assert!(ended.out.contains("journal j holds 4 plays"));
+        assert_ne!(folder.get(&format!("after.{ending}")), folder.get(sheet));
+        let ended = run("undo after.EXT --journal j -o undone.EXT --all").expect(0);
+        assert!(ended.out.contains("4 plays taken back; wrote undone."));
+        assert_eq!(folder.get(&format!("undone.{ending}")), folder.get(sheet));
+        // The emptied journal belongs to the sheet and can be continued.
+        assert_eq!(folder.get("j").len(), 36);
+        run("undo undone.EXT --journal j -o none.EXT").fails("status 15: the journal holds no play");
+        run("play undone.EXT b.emf -o after.EXT --journal j --force").expect(0);
+        run("undo after.EXT --journal j -o undone.EXT --all --force").expect(0);
+        assert_eq!(folder.get(&format!("undone.{ending}")), folder.get(sheet));
+        for name in ["j".to_string(), format!("after.{ending}"), format!("undone.{ending}")] {
+            std::fs::remove_file(folder.path(&name)).unwrap();
+        }
+    }
+}
+
+/// A journal goes on over several runs, also between the formats, and is taken back step by step.
+#[test]
+fn a_journal_is_continued() {
+    let folder = prepared("a_journal_is_continued");
+    folder.run("play sheet.png a.emf -o 1.bmp --journal j").expect(0);
+    let ended = folder.run("play 1.bmp b.emf -o 2.png --journal j --brush 777777").expect(0);
+    assert!(ended.out.contains("2 plays, 0 refused") && ended.out.contains("journal j holds 4 plays"));
+    let journal = folder.get("j");
+    folder.run("undo 2.png --journal j -o 3.png --plays 5").fails("j holds 4 plays, fewer than the 5 asked for");
+    assert!(folder.get("j") == journal && !folder.has("3.png"));
+    let ended = folder.run("undo 2.png --journal j -o 3.png").expect(0);
+    assert!(ended.out.contains("play 4 taken back: 1 pixel\n"), "{ended:?}");
+    folder.run("undo 3.png --journal j -o 4.bmp").expect(0);
+    assert_eq!(folder.get_sheet("4.bmp").surface, folder.get_sheet("1.bmp").surface);
+    assert!(folder.run("undo 4.bmp --journal j -o 5.png --plays 2").expect(0).out.contains("holds 0 plays"));
+    assert_eq!(folder.get("5.png"), folder.get("sheet.png"));
+    // A 24-bit BMP comes back as one, even by way of a PNG.
+    folder.run("play sheet.bmp b.emf -o 6.png --journal k").expect(0);
+    folder.run("undo 6.png --journal k -o 7.bmp --all").expect(0);
+    assert_eq!(folder.get("7.bmp"), folder.get("sheet.bmp"));
+}
+
+#[test]
+fn refused_records_are_skipped() {
+    let folder = prepared("refused_records_are_skipped");
+    let ended = folder.run("play sheet.png refused.emf b.emf -o out.png --journal j").expect(2);
+    assert!(ended.err.contains("refused.emf: offset 168: alpha blend (0x72): refused and skipped, status 11: "));
+    assert!(ended.out.contains("4 plays, 1 refused"));
+    folder.run("undo out.png --journal j -o undone.png --all").expect(0);
+    assert_eq!(folder.get("undone.png"), folder.get("sheet.png"));
+    assert_eq!(folder.names().iter().filter(|name| name.contains("tmp")).count(), 0);
+}
+
+#[test]
+fn nothing_is_overwritten_without_force() {
+    let folder = prepared("nothing_is_overwritten_without_force");
+    folder.put("out.png", b"mine");
+    folder.run("play sheet.png a.emf -o out.png --journal j").fails("out.png is already there; --force");
+    assert_eq!(folder.get("out.png"), b"mine");
+    assert!(!folder.has("j"));
+    folder.run("play sheet.png a.emf -o out.png --journal j --force").expect(0);
+    folder.put("undone.png", b"mine");
+    let journal = folder.get("j");
+    folder.run("undo out.png --journal j -o undone.png").fails("undone.png is already there; --force");
+    assert!(folder.get("undone.png") == b"mine" && folder.get("j") == journal);
+    // The sheet itself, too, is only written over by --force.
+    let sheet = folder.get("sheet.png");
+    folder.run("play sheet.png a.emf -o sheet.png").fails("--force");
+    assert_eq!(folder.get("sheet.png"), sheet);
+    folder.run("play sheet.png a.emf -o sheet.png --force --journal k").expect(0);
+    assert_ne!(folder.get("sheet.png"), sheet);
+    folder.run("undo sheet.png -o sheet.png --force --journal k --all").expect(0);
+    assert_eq!(folder.get("sheet.png"), sheet);
+    // A folder is no file to write.
+    std::fs::create_dir(folder.path("dir.png")).unwrap();
+    folder.run("play sheet.png a.emf -o dir.png --force").fails("dir.png is a folder");
+    assert_eq!(folder.names().iter().filter(|name| name.contains("tmp")).count(), 0);
+}
+
+#[test]
+fn one_file_has_one_part() {
+    let folder = prepared("one_file_has_one_part");
+    folder.put("bands.png", &folder.get("a.emf"));
+    folder.run("play sheet.png bands.png -o ./bands.png --force").fails("an EMF file and OUT at once");
+    folder.run("play sheet.png a.emf -o out.png --journal ./out.png").fails("the journal and OUT at once");
+    folder.run("play sheet.png a.emf -o o.png --journal sheet.png --force").fails("the journal and the sheet at once");
+    folder.run("play sheet.png a.emf -o o.png --journal a.emf --force").fails("the journal and an EMF file at once");
+    folder.run("undo sheet.png --journal sheet.png -o out.png").fails("the journal and the sheet at once");
+    folder.run("undo sheet.png --journal ./out.png -o out.png").fails("the journal and OUT at once");
+    // Not a journal: kept, even under --force.
+    folder.run("play sheet.png a.emf -o o.png --journal b.emf --force").fails("b.emf: this is no journal");
+    folder.run("undo sheet.png --journal b.emf -o o.png").fails("b.emf: this is no journal");
+    assert!(!folder.has("o.png") && !folder.has("out.png"));
+}
+
+#[test]
+fn a_wrong_journal_changes_nothing() {
+    let folder = prepared("a_wrong_journal_changes_nothing");
+    folder.run("play sheet.png a.emf -o out.png --journal j").expect(0);
+    let journal = folder.get("j");
+    folder.run("undo sheet.png --journal j -o undone.png").fails("the journal belongs to another sheet");
+    folder.run("undo sheet.bmp --journal j -o undone.png").fails("its surface is 40 by 30 pixels, this one 41 by 30");
+    folder.run("play sheet.png b.emf -o more.png --journal j").fails("belongs to another sheet");
+    folder.run("undo sheet.png --journal j -o undone.png --force").fails("Nothing was changed");
+    assert!(!folder.has("undone.png") && !folder.has("more.png"));
+    // A damaged journal.
+    let mut damaged = journal.clone();
+    damaged[60] ^= 1;
+    folder.put("j", &damaged);
+    folder.run("undo out.png --journal j -o undone.png").fails("the journal is damaged");
+    folder.put("j", &journal[..journal.len() - 1]);
+    folder.run("undo out.png --journal j -o undone.png").fails("length is not what its count in use says");
+    folder.put("j", &journal);
+    // Only --force begins a journal anew.
+    let ended = folder.run("play sheet.png b.emf -o more.png --journal j --force").expect(0);
+    assert!(ended.err.contains("begun anew") && ended.out.contains("journal j holds 2 plays"));
+    folder.run("undo more.png --journal j -o undone.png --all").expect(0);
+    assert_eq!(folder.get("undone.png"), folder.get("sheet.png"));
+}
+
+#[test]
+fn a_failure_leaves_no_half_file() {
+    let folder = prepared("a_failure_leaves_no_half_file");
+    let before = folder.names();
+    folder.run("play sheet.png a.emf -o out.png --journal nowhere/j").fails("cannot write nowhere/j");
+    assert_eq!(folder.names(), before);
+}
+
+/// Two plays over a large surface are more than a journal holds; without a journal they are no trouble.
+#[test]
+fn a_full_journal_is_an_error() {
+    let folder = Folder::new("a_full_journal_is_an_error");
+    folder.put_sheet("sheet.bmp", &noisy_sheet(4096, 2600, false));
+    folder.put("a.emf", &emf(&[brush_record([0, 0, 4096, 4096]), brush_record([0, 0, 4096, 4096])]));
+    let ended = folder.run("play sheet.bmp a.emf -o out.bmp --journal j").expect(1);
+    assert!(ended.err.contains("status 14: the journal has no room"), "{ended:?}");
+    assert!(ended.err.contains("more than 20,000,000 records. Nothing was written"));
+    assert_eq!(folder.names(), ["a.emf", "sheet.bmp"]);
+    folder.run("play sheet.bmp a.emf -o out.bmp").expect(0);
+}
