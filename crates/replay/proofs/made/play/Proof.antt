@@ -1,0 +1,83 @@
+use mathlib.Core.Path.{sym, ap, _∙_}
+use mathlib.Core.List.{List, _++_}
+use Prim.Native.Nat.{ℕ}
+use lib.ListN.{take, drop}
+use lib.Seq.{length-take-le}
+use Rattle.player.specs.Left.{left}
+use Rattle.replay.proofs.CallLaws.{front, rest, asked}
+use borrow.Author.Needs.{needs}
+use Rattle.replay.proofs.made.play.Statement.{statement}
+use Rattle.replay.proofs.made.play.Tie as tie
+use Rattle.replay.proofs.made.play.Reads as reads
+use Rattle.replay.proofs.made.play.Lts as lts
+use Rattle.player.proofs.play.Reads as play-reads
+use Rattle.replay.proofs.made.clip_in.Reads as clip-in-reads
+use Rattle.words.proofs.read_u32.Reads as read-u32-reads
+
+-- src/made.rt:32:9
+clip-in-requires : tie.Need-clip-in-requires
+clip-in-requires c κs = search needs
+
+-- src/made.rt:33:9
+read-u32-requires : tie.Need-read-u32-requires
+read-u32-requires c κs = search needs
+
+-- src/made.rt:37:9
+slice-relend-prefix-play : tie.Need-slice-relend-prefix-play
+slice-relend-prefix-play c = search needs
+
+-- src/made.rt:37:9
+slice-aggregate-play : tie.Need-slice-aggregate-play
+slice-aggregate-play c = sym (length-take-le _ _ (c .before .before .before .before .before .before .before .pre .0))
+
+-- src/made.rt:40:9
+slice-relend-prefix-play-2 : tie.Need-slice-relend-prefix-play-2
+slice-relend-prefix-play-2 c = search needs
+
+-- src/made.rt:40:9
+slice-aggregate-play-2 : tie.Need-slice-aggregate-play-2
+slice-aggregate-play-2 c = sym (length-take-le _ _ (c .before .before .before .before .before .before .before .before .pre .1))
+
+-- src/made.rt:36:5
+play-requires : tie.Need-play-requires
+play-requires c κs = search needs
+
+-- src/made.rt:27:1
+same-length : tie.Need-same-length
+same-length c = search needs
+
+-- src/made.rt:27:1
+same-length-2 : tie.Need-same-length-2
+same-length-2 c = search needs
+
+-- src/made.rt:27:1
+returns : tie.Need-returns
+returns c =
+    let start = c .before .before .before .before .before .before .before .before .before .before .before .before .before in
+    let played = c .before .before .before .before .play in
+    let n : ℕ = start .args .m .pixels in
+    let l : List ℕ = start .args .surface .now in
+    let e : List ℕ = played .last .0 in
+    let m : ℕ = start .args .m .bytes in
+    let j : List ℕ = start .args .journal .now in
+    let f : List ℕ = played .last .1 .1 .1 .0 in (
+      ap (λ (x : List ℕ). left (played .result) x (take m (f ++ drop m j))) (front n l e (start .pre .0) (played .kept .0))
+          ∙ ap (left (played .result) e) (front m j f (start .pre .1) (played .kept .1 .1 .1 .0)) ∙ played .ensures
+          ∙ asked _ _ _ (start .args .front .now) _ _ _ (c .before .before .before .before .before .before .before .before .clip-in .ensures) (c .before .before .before .before .before .before .before .read-u32 .ensures),
+      (rest n l e (start .pre .0) (played .kept .0), rest m j f (start .pre .1) (played .kept .1 .1 .1 .0)),
+    )
+
+pub play-spec : {M : Type 1} → statement M
+play-spec =
+    tie.close
+    (tie.spec
+    clip-in-requires
+    read-u32-requires
+    slice-relend-prefix-play
+    slice-aggregate-play
+    slice-relend-prefix-play-2
+    slice-aggregate-play-2
+    play-requires
+    same-length
+    same-length-2
+    returns)

@@ -1,0 +1,37 @@
+-- Script format: what a call's arguments ask for, and the numbers of a reading's line. Definitions only.
+use mathlib.Core.Path.{_≡_}
+use mathlib.Core.List.{List, [], _∷_}
+use mathlib.Core.Bool.{Bool}
+use Prim.Native.Nat.{ℕ}
+use lib.ListN.{length, drop}
+use Rattle.words.specs.Bytes.{le32}
+use Rattle.words.specs.Choice.{pick}
+use Rattle.region.specs.declared.Rectangle.{Rectangle}
+use Rattle.player.specs.Calls.{Play, playWith}
+use Rattle.reading.specs.declared.Reading.{Reading}
+use Rattle.reading.specs.Reading.{readingOf, headerBytes, viewBytes, readPalette}
+use Rattle.script.specs.Sum.{sumOf, bytesOf}
+
+-- what a call is not lent stays as it was
+pub record Rest (n : ℕ) (before after : List ℕ) : Type 0 where
+  pub long : length after ≡ length before
+  pub same : drop n after ≡ drop n before
+
+-- "left, top, right, bottom, brush, tag, data", behind the opcode; "without item 11 it is not looked at" (the tag)
+abbrev pub clipIn : (front : List ℕ) → Rectangle
+clipIn front = record { left = le32 front 4; top = le32 front 8; right = le32 front 12; bottom = le32 front 16 }
+
+abbrev pub playAsked : (s front : List ℕ) → Play
+playAsked s front = playWith s (clipIn front) (le32 front 20)
+
+-- "answer headerlength headersum viewlength viewsum width rows bits compression topdown red green blue alpha palettesum"
+unfoldable pub lineOf : Reading → (header view palette : ℕ) → List ℕ
+lineOf r header view palette =
+    r .status ∷ r .«header_len» ∷ header ∷ r .«view_len» ∷ view ∷ r .width ∷ r .rows ∷ r .bits ∷ r .compression
+    ∷ pick (r .«top_down») 1 0 ∷ r .red ∷ r .green ∷ r .blue ∷ r .alpha ∷ palette ∷ []
+
+abbrev pub lineFrom : (s : List ℕ) → Reading → (palette : List ℕ) → List ℕ
+lineFrom s r palette = lineOf r (sumOf (headerBytes s r)) (sumOf (viewBytes s r)) (sumOf (bytesOf palette))
+
+unfoldable pub readLine : (s : List ℕ) (mask : Bool) → List ℕ
+readLine s mask = lineFrom s (readingOf s mask) (readPalette s mask)

@@ -1,0 +1,96 @@
+// The library's calls, on what is lent of the surface and the journal.
+ghost use mathlib.Core.Path.{_≡_};
+ghost use Prim.Native.Nat.{_≤_};
+ghost use lib.ListN.{length, take, drop};
+ghost use Rattle.lent.specs.Lent.{lent as lentOf};
+ghost use Rattle.lent.specs.Undoing.{undoOf};
+ghost use Rattle.player.specs.Calls.{play as playOf};
+ghost use Rattle.player.specs.Left.{left};
+ghost use Rattle.replay.specs.Calls.{Rest, clipIn, playAsked, lineOf, readLine};
+use crate::state::State;
+use player::Answer;
+use reading::Reading;
+use region::Rectangle;
+
+fn clip_in(front: &[u8]) -> Rectangle
+    ensures { λ r. ⌜ r ≡ clipIn (now (front .entry)) ⌝ }
+{
+    Rectangle {
+        left: words::read_u32(front, 4),
+        top: words::read_u32(front, 8),
+        right: words::read_u32(front, 12),
+        bottom: words::read_u32(front, 16),
+    }
+}
+
+// A play of record s. Behind the opcode stand the clip's four numbers, the brush and a tag, which is not looked at.
+pub fn play(surface: &mut [u32], journal: &mut [u8], m: State, s: &[u8], front: &[u8]) -> Answer
+    requires { ⌜ (m .pixels ≤ length (now surface)) × (m .bytes ≤ length (now journal)) ⌝ }
+    ensures { λ r. ⌜ left r (take (m .pixels) (now (surface .exit))) (take (m .bytes) (now (journal .exit))) ≡ playOf (m .width) (m .height) (playAsked (now (s .entry)) (now (front .entry))) (lentOf (take (m .pixels) (now (surface .entry))) (take (m .bytes) (now (journal .entry))) (m .used)) ⌝ }
+    ensures { λ r. ⌜ (Rest (m .pixels) (now (surface .entry)) (now (surface .exit))) × (Rest (m .bytes) (now (journal .entry)) (now (journal .exit))) ⌝ }
+{
+    let clip = clip_in(front);
+    let brush = words::read_u32(front, 20);
+    let pixels = m.pixels;
+    let bytes = m.bytes;
+    player::play(
+        &mut surface[..pixels],
+        m.width,
+        m.height,
+        &mut journal[..bytes],
+        m.used,
+        s,
+        clip,
+        brush,
+    )
+}
+
+// An undo of the last play.
+pub fn undo(surface: &mut [u32], journal: &[u8], m: State) -> Answer
+    requires { ⌜ (m .pixels ≤ length (now surface)) × (m .bytes ≤ length (now journal)) ⌝ }
+    ensures { λ r. ⌜ left r (take (m .pixels) (now (surface .exit))) (take (m .bytes) (now (journal .entry))) ≡ undoOf (m .width) (m .height) (lentOf (take (m .pixels) (now (surface .entry))) (take (m .bytes) (now (journal .entry))) (m .used)) ⌝ }
+    ensures { λ r. ⌜ Rest (m .pixels) (now (surface .entry)) (now (surface .exit)) ⌝ }
+{
+    let pixels = m.pixels;
+    let bytes = m.bytes;
+    player::undo(
+        &mut surface[..pixels],
+        m.width,
+        m.height,
+        &journal[..bytes],
+        m.used,
+    )
+}
+
+// A reading of record s, as the numbers of its line.
+pub fn read(s: &[u8], mask: bool) -> [u64; 15]
+    ensures { λ r. ⌜ r ≡ readLine (now (s .entry)) mask ⌝ }
+{
+    let r = reading::read(s, mask);
+    let header = script::sum::of_bytes(reading::header_part(s, mask));
+    let view = script::sum::of_bytes(reading::view_part(s, mask));
+    let palette = reading::palette(s, mask);
+    numbers(r, header, view, script::sum::of_words(&palette))
+}
+
+fn numbers(r: Reading, header: u64, view: u64, palette: u64) -> [u64; 15]
+    ensures { λ l. ⌜ l ≡ lineOf r header view palette ⌝ }
+{
+    [
+        r.status as u64,
+        r.header_len as u64,
+        header,
+        r.view_len as u64,
+        view,
+        r.width as u64,
+        r.rows as u64,
+        r.bits as u64,
+        r.compression as u64,
+        r.top_down as u64,
+        r.red as u64,
+        r.green as u64,
+        r.blue as u64,
+        r.alpha as u64,
+        palette,
+    ]
+}

@@ -1,0 +1,61 @@
+use mathlib.Core.Path.{_≡_, refl, sym, ap, _∙_}
+use Prim.Native.Nat.{ℕ, _+_, _≤_, _-_}
+use native.Mathlib.Omega.{arith}
+use lib.ListN.{length, drop}
+use borrow.Author.Needs.{needs}
+use Rattle.script.specs.Sum.{sumFrom, sumOf, bytesOf}
+use Rattle.script.proofs.SumLaws.{byte-more, byte-end}
+use Rattle.script.proofs.sum.of_bytes.Statement.{statement}
+use Rattle.script.proofs.sum.of_bytes.Tie as tie
+use Rattle.script.proofs.sum.of_bytes.Reads as reads
+use Rattle.script.proofs.sum.of_bytes.Lts as lts
+use Rattle.script.proofs.sum.next.Reads as next-reads
+
+abbrev Inv-loop : tie.InvT-loop
+Inv-loop s h₀ k₀ h k = (k ≤ length s) × (sumFrom h (drop k s) ≡ sumOf s)
+
+abbrev μ-loop : tie.MeasureT-loop
+μ-loop s h₀ k₀ h k = length s - k
+
+-- src/sum.rt:34:5
+loop-holds : tie.Need-loop-holds Inv-loop μ-loop
+loop-holds c = (omega arith, refl)
+
+-- src/sum.rt:35:21
+shared-slice-read-next : tie.Need-shared-slice-read-next Inv-loop μ-loop
+shared-slice-read-next c = omega arith
+
+-- src/sum.rt:35:9
+next-requires : tie.Need-next-requires Inv-loop μ-loop
+next-requires c κs = search needs
+
+-- src/sum.rt:36:9
+add-k : tie.Need-add-k Inv-loop μ-loop
+add-k c = omega arith
+
+-- src/sum.rt:34:5
+loop-less : tie.Need-loop-less Inv-loop μ-loop
+loop-less c = omega arith
+
+-- src/sum.rt:34:5
+loop-again : tie.Need-loop-again Inv-loop μ-loop
+loop-again c =
+    (omega arith, ap (λ (h : ℕ). sumFrom h (drop (c .before .before .before .loop .k + 1) (c .before .before .before .before .before .args .s .now))) (c .next .ensures) ∙ byte-more _ _ _ (c .before .before .loop-test .taken) ∙ c .before .before .before .loop .inv .1)
+
+-- src/sum.rt:29:1
+returns : tie.Need-returns Inv-loop μ-loop
+returns c = sym (byte-end _ _ _ (c .loop-test .left)) ∙ c .before .loop .inv .1
+
+pub of-bytes-spec : {M : Type 1} → statement M
+of-bytes-spec =
+    tie.close
+    (tie.spec
+    Inv-loop
+    μ-loop
+    loop-holds
+    shared-slice-read-next
+    next-requires
+    add-k
+    loop-less
+    loop-again
+    returns)

@@ -1,0 +1,66 @@
+use mathlib.Core.Path.{_≡_, refl, sym, ap, _∙_}
+use Prim.Native.Nat.{ℕ, _+_, _≤_, _-_}
+use native.Mathlib.Omega.{arith}
+use lib.ListN.{length, drop}
+use borrow.Author.Needs.{needs}
+use Rattle.script.specs.Sum.{sumFrom, sumOf, bytesOf}
+use Rattle.script.proofs.SumLaws.{word-more, word-end}
+use Rattle.script.proofs.sum.of_words.Statement.{statement}
+use Rattle.script.proofs.sum.of_words.Tie as tie
+use Rattle.script.proofs.sum.of_words.Reads as reads
+use Rattle.script.proofs.sum.of_words.Lts as lts
+use Rattle.script.proofs.sum.next_word.Reads as next-word-reads
+
+abbrev Inv-loop : tie.InvT-loop
+Inv-loop s h₀ k₀ h k = (k ≤ length s) × (sumFrom h (bytesOf (drop k s)) ≡ sumOf (bytesOf s))
+
+abbrev μ-loop : tie.MeasureT-loop
+μ-loop s h₀ k₀ h k = length s - k
+
+-- src/sum.rt:47:5
+loop-holds : tie.Need-loop-holds Inv-loop μ-loop
+loop-holds c = (omega arith, refl)
+
+-- src/sum.rt:48:26
+mul-next-word : tie.Need-mul-next-word Inv-loop μ-loop
+mul-next-word c = omega arith
+
+-- src/sum.rt:48:26
+shared-slice-read-next-word : tie.Need-shared-slice-read-next-word Inv-loop μ-loop
+shared-slice-read-next-word c = omega arith
+
+-- src/sum.rt:48:9
+next-word-requires : tie.Need-next-word-requires Inv-loop μ-loop
+next-word-requires c κs = search needs
+
+-- src/sum.rt:49:9
+add-k : tie.Need-add-k Inv-loop μ-loop
+add-k c = omega arith
+
+-- src/sum.rt:47:5
+loop-less : tie.Need-loop-less Inv-loop μ-loop
+loop-less c = omega arith
+
+-- src/sum.rt:47:5
+loop-again : tie.Need-loop-again Inv-loop μ-loop
+loop-again c =
+    (omega arith, ap (λ (h : ℕ). sumFrom h (bytesOf (drop (c .before .before .before .loop .k + 1) (c .before .before .before .before .before .args .s .now)))) (c .next-word .ensures) ∙ word-more _ _ _ (c .before .before .loop-test .taken) ∙ c .before .before .before .loop .inv .1)
+
+-- src/sum.rt:42:1
+returns : tie.Need-returns Inv-loop μ-loop
+returns c = sym (word-end _ _ _ (c .loop-test .left)) ∙ c .before .loop .inv .1
+
+pub of-words-spec : {M : Type 1} → statement M
+of-words-spec =
+    tie.close
+    (tie.spec
+    Inv-loop
+    μ-loop
+    loop-holds
+    mul-next-word
+    shared-slice-read-next-word
+    next-word-requires
+    add-k
+    loop-less
+    loop-again
+    returns)
