@@ -1,0 +1,526 @@
+//! Damage: one fault or several, aimed at a status, at a field's limits, or at nothing.
+
+use super::{get, get_half, places, set, set_half, set_signed, sound, view_len};
+use super::{raster, sourceless};
+use super::{
+    Aim, Parts, Record, Wish, BLEND, FAR, LONGEST, MASK_BLIT, MASK_CORNER, MASK_FOUR, MASK_USAGE, STRETCH, TARGET,
+};
+use crate::random::Random;
+
+/// A sound or a damaged record; `sound_percent` of a hundred are sound.
+pub fn any(r: &mut Random, aim: Aim, sound_percent: u64) -> Vec<u8> {
+    if r.percent(sound_percent) {
+        return sound(r, aim, Wish::default()).bytes;
+    }
+    match r.below(22) {
+        0..=10 => {
+            let status = 3 + r.below(11) as u32;
+            aimed(r, aim, status)
+        }
+        11..=14 => {
+            let mut record = sound(r, aim, Wish::default());
+            boundary(r, &mut record);
+            record.bytes
+        }
+        15..=16 => {
+            let wish = wish_for(r, 0);
+            let mut record = sound(r, aim, wish);
+            for _ in 0..2 + r.below(3) {
+                if r.percent(25) {
+                    boundary(r, &mut record);
+                } else {
+                    let status = 3 + r.below(11) as u32;
+                    spoil(r, &mut record, status);
+                }
+            }
+            record.bytes
+        }
+        17..=18 => crossed(r, aim),
+        19 => {
+            // Single bytes.
+            let mut record = sound(r, aim, Wish::default());
+            for _ in 0..1 + r.below(4) {
+                let at = r.below(record.bytes.len() as u64) as usize;
+                record.bytes[at] = if r.percent(50) { r.pick(&[0, 1, 127, 128, 255]) } else { r.byte() };
+            }
+            record.bytes
+        }
+        20 => {
+            // Cut off or longer, with or without Size following.
+            let mut record = sound(r, aim, Wish::default());
+            let length = if r.percent(80) {
+                r.below(record.bytes.len() as u64 + 1) as usize
+            } else {
+                record.bytes.len() + r.below(13) as usize
+            };
+            let fill = r.byte();
+            record.bytes.resize(length, fill);
+            if r.percent(70) {
+                if r.percent(80) {
+                    record.bytes.truncate(length / 4 * 4);
+                }
+                let size = record.bytes.len() as u32;
+                set(&mut record.bytes, 4, size);
+            }
+            record.bytes
+        }
+        _ => {
+            let length = if r.percent(10) { r.below(12) } else { r.below(400) } as usize;
+            let mut bytes = r.bytes(length);
+            if r.percent(80) {
+                set(&mut bytes, 0, r.pick(&[BLEND, MASK_BLIT, STRETCH]));
+            }
+            if r.percent(80) {
+                bytes.truncate(length / 4 * 4);
+                let size = bytes.len() as u32;
+                set(&mut bytes, 4, size);
+            }
+            bytes
+        }
+    }
+}
+
+/// What a record needs so that damage at this status bites; 0 for any status.
+fn wish_for(r: &mut Random, status: u32) -> Wish {
+    let mut wish = Wish::default();
+    match status {
+        9 => {
+            wish.bitfields = true;
+        }
+        11 => {
+            wish.kind = Some(r.pick(&[BLEND, BLEND, MASK_BLIT, STRETCH]));
+            wish.format_1 = r.percent(50);
+        }
+        13 => {
+            wish.kind = Some(MASK_BLIT);
+            if r.percent(50) {
+                wish.no_mask = true;
+            } else {
+                wish.mask_depth = Some(r.pick(&[4, 8, 16, 24, 32]));
+            }
+        }
+        _ => {
+            wish.bitfields = r.percent(25);
+            wish.format_1 = r.percent(5);
+            if r.percent(8) {
+                wish.mask_depth = Some(r.pick(&[4, 8, 16, 24, 32]));
+            }
+        }
+    }
+    wish
+}
+
+/// A record with one fault that mostly gives this status (3 to 13), or comes very near it.
+pub fn aimed(r: &mut Random, aim: Aim, status: u32) -> Vec<u8> {
+    let wish = wish_for(r, status);
+    let mut record = sound(r, aim, wish);
+    // The wish alone brings 13, and half of what 11 is about.
+    if !(status == 13 || (status == 11 && wish.format_1 && record.kind == BLEND)) {
+        spoil(r, &mut record, status);
+    }
+    record.bytes
+}
+
+/// Source and mask with a fault each: the lower number must win, whichever picture has it.
+fn crossed(r: &mut Random, aim: Aim) -> Vec<u8> {
+    let mask_depth = Some(r.pick(&[1, 8, 16, 16, 32, 32]));
+    let wish = Wish { kind: Some(MASK_BLIT), bitfields: true, mask_depth, ..Wish::default() };
+    let mut record = sound(r, aim, wish);
+    let (source, mask) = (record.source, record.mask);
+    (record.source, record.mask) = (source, None);
+    let status = r.pick(&[6, 7, 8, 9, 9, 10, 10]);
+    spoil(r, &mut record, status);
+    (record.source, record.mask) = (None, mask);
+    let status = r.pick(&[6, 7, 8, 9, 9, 10, 10]);
+    spoil(r, &mut record, status);
+    record.bytes
+}
+
+/// One of the present pictures, with the place of its four fields.
+fn present(r: &mut Random, record: &Record) -> Option<(Parts, usize)> {
+    let source = record.source.map(|p| (p, places(record.kind).four));
+    let mask = record.mask.map(|p| (p, MASK_FOUR));
+    match (source, mask) {
+        (Some(s), Some(m)) => Some(if r.percent(60) { s } else { m }),
+        (s, m) => s.or(m),
+    }
+}
+
+/// One fault of the kind that this status is about.
+pub fn spoil(r: &mut Random, record: &mut Record, status: u32) {
+    match status {
+        3 => record.bytes.truncate(r.below(8) as usize),
+        4 => {
+            const OTHERS: [u32; 13] =
+                [0, 1, 0x4D, 0x4F, 0x50, 0x52, 0x71, 0x73, 0x4E00, 0x01000051, 0x80000072, 0x51000000, u32::MAX];
+            let kind = match r.below(10) {
+                0 => r.word(),
+                // Another type's places over this one's bytes.
+                1..=2 => r.pick(&[BLEND, MASK_BLIT, STRETCH]),
+                _ => r.pick_or(&OTHERS, |_| record.kind + 256),
+            };
+            set(&mut record.bytes, 0, kind);
+        }
+        5 => spoil_size(r, record),
+        6 => spoil_part(r, record),
+        7 => spoil_transform(r, record),
+        8 => spoil_header(r, record),
+        9 => spoil_masks(r, record),
+        10 => spoil_bits(r, record),
+        11 => spoil_operation(r, record),
+        12 => spoil_geometry(r, record),
+        _ => {
+            if record.kind == MASK_BLIT {
+                for k in 0..4 {
+                    set(&mut record.bytes, MASK_FOUR + 4 * k, 0);
+                }
+            }
+        }
+    }
+}
+
+fn spoil_size(r: &mut Random, record: &mut Record) {
+    let fixed = places(record.kind).fixed;
+    let length = record.bytes.len();
+    match r.below(5) {
+        // Size alone.
+        0 => {
+            let by = r.pick(&[1, 2, 3, 4, 8, 12, 256, 65_536, 1 << 24, 1 << 31]);
+            let size = if r.percent(50) { (length as u32).wrapping_add(by) } else { (length as u32).wrapping_sub(by) };
+            set(&mut record.bytes, 4, size);
+        }
+        1 => {
+            let size = r.pick(&[0, 4, 8, fixed as u32, fixed as u32 - 4, u32::MAX, 1 << 31, LONGEST as u32]);
+            set(&mut record.bytes, 4, size);
+        }
+        // The length alone.
+        2 => {
+            let by = 1 + r.below(8) as usize;
+            let longer = if r.percent(50) { length + by } else { length.saturating_sub(by) };
+            let fill = r.byte();
+            record.bytes.resize(longer, fill);
+        }
+        // Both, but not a multiple of 4.
+        3 => {
+            let by = r.below(4) as usize;
+            record.bytes.resize(length + by, 0);
+            set(&mut record.bytes, 4, (length + by) as u32);
+        }
+        // Both, around the fixed part's end.
+        _ => {
+            let new = r.pick(&[8, 12, fixed - 8, fixed - 4, fixed - 3, fixed - 1, fixed]);
+            record.bytes.resize(new, 0);
+            set(&mut record.bytes, 4, new as u32);
+        }
+    }
+}
+
+fn spoil_part(r: &mut Random, record: &mut Record) {
+    let fixed = places(record.kind).fixed as u32;
+    let length = record.bytes.len() as u32;
+    let Some((_, four)) = present(r, record) else {
+        // An absent picture becomes present by one field.
+        let four = if record.kind == MASK_BLIT && r.percent(50) { MASK_FOUR } else { places(record.kind).four };
+        let n = r.pick(&[1, 40, fixed, length, u32::MAX]);
+        set(&mut record.bytes, four + 4 * r.below(4) as usize, n);
+        return;
+    };
+    let at = four + 8 * r.below(2) as usize;
+    let (offset, size) = (get(&record.bytes, at), get(&record.bytes, at + 4));
+    match r.below(8) {
+        0 => {
+            let n = r.pick_or(&[0, 1, 8, fixed - 1, fixed - 4, fixed], |r| r.below(fixed as u64) as u32);
+            set(&mut record.bytes, at, n);
+        }
+        1 => {
+            let n = r.pick(&[length, length + 1, length - 1, u32::MAX, 0xFFFF_FFF0, 1 << 31]);
+            set(&mut record.bytes, at, n);
+        }
+        // The end at Size, and one past it.
+        2 => set(&mut record.bytes, at, length.wrapping_sub(size)),
+        3 => set(&mut record.bytes, at, length.wrapping_sub(size).wrapping_add(1)),
+        4 => set(&mut record.bytes, at + 4, length.wrapping_sub(offset).wrapping_add(r.below(2) as u32)),
+        // A sum that 32 bits lose.
+        5 => {
+            let end = r.pick(&[0, 1, 32, fixed, length]);
+            if r.percent(50) {
+                set(&mut record.bytes, at + 4, end.wrapping_sub(offset));
+            } else {
+                set(&mut record.bytes, at, 0u32.wrapping_sub(size).wrapping_add(end));
+            }
+        }
+        // Empty parts: nowhere, at the end, where they were.
+        6 => {
+            let n = r.pick(&[0, 0, length, length + 1, fixed, fixed - 1, offset]);
+            set(&mut record.bytes, at, n);
+            set(&mut record.bytes, at + 4, 0);
+        }
+        _ => {
+            let n = r.pick_or(&[0, 1, 0x7FFF_FFFF, 1 << 31, u32::MAX], Random::word);
+            set(&mut record.bytes, at + 4, n);
+        }
+    }
+}
+
+fn spoil_transform(r: &mut Random, record: &mut Record) {
+    let at = places(record.kind);
+    if let (Some(transform), true) = (at.transform, r.percent(65)) {
+        let known = [
+            0x7FC00000, 0xFFC00000, 0x7F800001, 0x7F800000, 0xFF800000, 0x3F800001, 0x3F7FFFFF, 0xBF800000, 0x3F800000,
+            // Smallest numbers that are not zero, and both zeros.
+            0x00000001, 0x80000001, 0x00800000, 0x00000000, 0x80000000,
+        ];
+        let n = if r.percent(85) { r.pick(&known) } else { r.word() };
+        set(&mut record.bytes, transform + 4 * r.below(6) as usize, n);
+        return;
+    }
+    let usage = if record.kind == MASK_BLIT && r.percent(50) { MASK_USAGE } else { at.usage };
+    let n = r.pick_or(&[1, 2, 3, 0x100, 0x1_0000, 0x100_0000, 1 << 31, u32::MAX], Random::word);
+    set(&mut record.bytes, usage, n);
+}
+
+fn spoil_header(r: &mut Random, record: &mut Record) {
+    let Some((parts, four)) = present(r, record) else { return };
+    let at = parts.header_at;
+    let bytes = &mut record.bytes;
+    let depth = get_half(bytes, at + 14);
+    match r.below(10) {
+        0 => {
+            let n = r.pick(&[0, 1, 12, 39, 40, 41, 52, 56, 64, 107, 108, 109, 124, 0x1_0028, 0x8000_0028, u32::MAX]);
+            set(bytes, at, n);
+        }
+        1 => {
+            let n = r.pick(&[0, -1, -5, 16_384, 16_385, -16_384, 65_537, i32::MIN, i32::MAX]);
+            set(bytes, at + 4, n as u32);
+        }
+        2 => {
+            let n = r.pick(&[0, 16_384, 16_385, -16_384, -16_385, 65_537, i32::MIN, i32::MIN + 1, i32::MAX]);
+            set(bytes, at + 8, n as u32);
+        }
+        3 => set_half(bytes, at + 12, r.pick(&[0, 2, 0x100, 0x101, 0x8001, 0xFFFF])),
+        4 => {
+            let known = [0, 2, 3, 5, 7, 9, 12, 15, 17, 23, 25, 31, 33, 64, 0x101, 0x120, 0x2000, 0x8001, 0xFFFF];
+            let n = if r.percent(70) { r.pick(&known) } else { r.pick(&[1, 4, 8, 16, 24, 32]) };
+            set_half(bytes, at + 14, n);
+        }
+        5 => {
+            let n = r.pick(&[0, 1, 2, 3, 4, 5, 6, 0x100, 0x300, 0x03000000, 0x80000000, 0x80000003, u32::MAX]);
+            set(bytes, at + 16, n);
+        }
+        6 => {
+            let full = if depth <= 8 { 1u32 << depth } else { 256 };
+            // The last two are small numbers once multiplied by 4 in 32 bits.
+            let known =
+                [full, full + 1, full - 1, 255, 256, 257, 65_536, 65_537, 1 << 31, u32::MAX, 0x4000_0000, 0x4000_0002];
+            set(bytes, at + 32, r.pick(&known));
+        }
+        // The part too short: by one, or for the header, the masks, or nearly nothing.
+        7 => {
+            let size = get(bytes, at) as usize;
+            let behind = if size == 40 && get(bytes, at + 16) == 3 { 12 } else { 0 };
+            let used = get(bytes, at + 32) as usize;
+            let entries = if depth <= 8 && used == 0 { 1 << depth } else { used.min(256) };
+            let needed = size + behind + 4 * entries;
+            let n = if r.percent(50) { needed.saturating_sub(r.pick(&[1, 2, 4])) } else { needed };
+            set(bytes, four + 4, n as u32);
+        }
+        8 => {
+            let n = r.pick(&[0, 1, 3, 4, 12, 16, 36, 39, 40, 51, 52, 55, 56, 107, 108]);
+            set(bytes, four + 4, n);
+        }
+        // Around 256 colours in a part that is long enough for more.
+        _ => {
+            let length = bytes.len() + 1_200;
+            bytes.resize(length, 0);
+            set(bytes, 4, length as u32);
+            set(bytes, four + 4, length.wrapping_sub(at) as u32);
+            set(bytes, at + 32, r.pick(&[2, 3, 16, 17, 255, 256, 257, 258, 270]));
+        }
+    }
+}
+
+fn spoil_masks(r: &mut Random, record: &mut Record) {
+    let Some((parts, _)) = present(r, record) else { return };
+    let at = parts.header_at;
+    let bytes = &mut record.bytes;
+    if get(bytes, at + 16) != 3 {
+        // Any header of 108 bytes can become one with masks.
+        set_half(bytes, at + 14, r.pick(&[16, 32]));
+        set(bytes, at + 16, 3);
+        let width = get(bytes, at + 4);
+        if r.percent(50) && width < 40 {
+            set(bytes, at + 40, 0x1F);
+            set(bytes, at + 44, 0x3E0);
+            set(bytes, at + 48, 0x7C00);
+            set(bytes, at + 52, 0);
+        }
+    }
+    let v4 = get(bytes, at) == 108;
+    let channel = r.below(if v4 { 4 } else { 3 }) as usize;
+    let other = r.below(3) as usize;
+    let place = at + 40 + 4 * channel;
+    let now = get(bytes, place);
+    let n = match r.below(10) {
+        0 => 0,
+        // A bit more or less, anywhere.
+        1..=3 => now ^ (1 << r.below(32)),
+        // One more at either end.
+        4 => now | now << 1,
+        5 => now | now >> 1,
+        6 => get(bytes, at + 40 + 4 * other),
+        // 8 and 9 ones, at any place.
+        7 => r.pick(&[0xFF, 0x1FF]) << r.below(24),
+        // Around the end of 16 bits.
+        8 => r.pick(&[0x1_0000, 0x8000, 0x1_8000, 0xFF00, 0x1_FE00, 0x80000000]),
+        _ => r.pick_or(&[u32::MAX, 0x5555, 0x80000001], Random::word),
+    };
+    set(bytes, place, n);
+}
+
+fn spoil_bits(r: &mut Random, record: &mut Record) {
+    let Some((parts, four)) = present(r, record) else { return };
+    let at = parts.header_at;
+    let bytes = &mut record.bytes;
+    let width = get(bytes, at + 4) as i32 as i64;
+    let height = get(bytes, at + 8) as i32 as i64;
+    let depth = get_half(bytes, at + 14);
+    if !(1..=16_384).contains(&width) || !(1..=16_384).contains(&height.abs()) || depth > 32 {
+        return;
+    }
+    let needed = view_len(width, height.abs(), depth) as u32;
+    match r.below(8) {
+        0..=2 => set(bytes, four + 12, needed.saturating_sub(r.pick(&[1, 2, 3, 4]))),
+        3 => set(bytes, four + 12, r.below(needed as u64) as u32),
+        4 => set(bytes, four + 12, 0),
+        // Just enough.
+        5 => set(bytes, four + 12, needed),
+        6 => set_signed(bytes, at + 8, height + height.signum() * r.between(1, 3)),
+        _ => set_signed(bytes, at + 4, width + r.between(1, 40)),
+    }
+}
+
+fn spoil_operation(r: &mut Random, record: &mut Record) {
+    let at = places(record.kind);
+    let bytes = &mut record.bytes;
+    if bytes.len() < at.fixed {
+        return;
+    }
+    let absent = |bytes: &mut [u8]| {
+        for k in 0..4 {
+            set(bytes, at.four + 4 * k, 0);
+        }
+    };
+    if record.kind == BLEND {
+        match r.below(5) {
+            0 | 1 => bytes[at.operation] = r.pick_or(&[1, 2, 0x80, 0xFF], Random::byte),
+            2 | 3 => bytes[at.operation + 3] = r.pick_or(&[2, 3, 0x80, 0x81, 0xFE, 0xFF, 1], Random::byte),
+            _ => absent(bytes),
+        }
+        return;
+    }
+    absent(bytes);
+    // One byte, or both, need the source, or by one bit only.
+    let first = at.operation + 2;
+    match r.below(4) {
+        0 => bytes[first] = 0xCC,
+        1 if record.kind == MASK_BLIT => {
+            bytes[first] = sourceless(r);
+            bytes[first + 1] = raster(r);
+        }
+        2 => bytes[first] = sourceless(r) ^ 1 << r.below(8),
+        _ => bytes[first] = r.byte(),
+    }
+}
+
+fn spoil_geometry(r: &mut Random, record: &mut Record) {
+    let at = places(record.kind);
+    let axis = r.below(2) as usize;
+    let far = [FAR + 1, -FAR - 1, FAR, -FAR, i32::MIN as i64, i32::MAX as i64, i32::MIN as i64 + 1, 1 << 24];
+    let bytes = &mut record.bytes;
+    match r.below(9) {
+        0 | 1 => {
+            let n = r.pick(&[0, 4_097, 4_096, -4_096, -4_097, -1, i32::MIN as i64, i32::MAX as i64, 65_537]);
+            set_signed(bytes, at.extent[axis], n);
+        }
+        2 => set_signed(bytes, TARGET[axis], r.pick(&far)),
+        3 => set_signed(bytes, at.corner[axis], r.pick(&far)),
+        4 if record.kind == MASK_BLIT => set_signed(bytes, MASK_CORNER[axis], r.pick(&far)),
+        5 => {
+            let place = at.source_extent.unwrap_or(at.extent)[axis];
+            let n = r.pick(&[0, -1, 16_384, 16_385, -16_384, -16_385, i32::MIN as i64, i32::MAX as i64]);
+            set_signed(bytes, place, n);
+        }
+        // The other sign.
+        6 => {
+            let place = if r.percent(50) { at.extent[axis] } else { at.source_extent.unwrap_or(at.extent)[axis] };
+            let n = get(bytes, place);
+            set(bytes, place, n.wrapping_neg());
+        }
+        // The rectangle just out of the picture, or just in it.
+        _ => {
+            let corner = get(bytes, at.corner[axis]) as i32 as i64;
+            let extent = get(bytes, at.source_extent.unwrap_or(at.extent)[axis]) as i32 as i64;
+            let size = record.source.map_or(1, |p| (get(bytes, p.header_at + 4 + 4 * axis) as i32 as i64).abs());
+            let (low, high) = if extent < 0 { (-extent, size) } else { (0, size - extent) };
+            let n = r.pick(&[low - 1, low, high, high + 1, corner + 1, corner - 1, -1]);
+            set_signed(bytes, at.corner[axis], n);
+        }
+    }
+}
+
+/// One field, of the fixed part or of a header, set to a number where something turns.
+fn boundary(r: &mut Random, record: &mut Record) {
+    let fixed = places(record.kind).fixed;
+    let at = match present(r, record) {
+        Some((parts, _)) if r.percent(50) => match r.below(16) {
+            14 => {
+                let n = r.pick(&[0, 1, 2, 0x7FFF, 0x8000, 0xFFFF, 0x101]);
+                set_half(&mut record.bytes, parts.header_at + 12, n);
+                return;
+            }
+            15 => {
+                let n = r.pick(&[0, 1, 2, 4, 8, 16, 24, 32, 0x8000, 0xFFFF]);
+                set_half(&mut record.bytes, parts.header_at + 14, n);
+                return;
+            }
+            k => parts.header_at + 4 * k as usize,
+        },
+        _ => 4 * r.below(fixed as u64 / 4) as usize,
+    };
+    let now = get(&record.bytes, at) as i64;
+    let length = record.bytes.len() as i64;
+    const LIMITS: [i64; 22] = [
+        0,
+        1,
+        2,
+        4,
+        8,
+        12,
+        16,
+        24,
+        32,
+        40,
+        80,
+        108,
+        128,
+        255,
+        256,
+        4_096,
+        16_384,
+        65_536,
+        FAR,
+        16_777_216,
+        20_000_000,
+        1 << 31,
+    ];
+    let limit = r.pick_or(&LIMITS, |r| r.pick(&[fixed as i64, length, 1 << 32]));
+    let n = match r.below(8) {
+        0 => r.pick(&[0, 1, 0xFFFF_FFFF, 1 << 31, (1 << 31) - 1]),
+        1 => now + r.pick(&[-4, -1, 1, 4]),
+        2 => -now,
+        3 => now ^ (1 << r.below(32)),
+        4 => -limit + r.between(-1, 1),
+        _ => limit + r.between(-1, 1),
+    };
+    set(&mut record.bytes, at, n as u32);
+}
