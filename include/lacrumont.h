@@ -66,7 +66,8 @@ enum lacrumont_status {
  *
  * Accepted: every pixel of the clipped target is drawn, and the journal gets, from record *used on, one record for each (column,
  * row, old pixel; row by row, left to right) and a closing one (0xFFFFFFFF, their number, the record's type). *used grows by
- * their number + 1, and *pixels is their number. All other bytes of the journal stay. Refused: only *pixels is written, 0. */
+ * their number + 1, and *pixels is their number. All other bytes of the journal stay. Refused: *pixels is 0 and *used keeps
+ * its value (both are stored to, so both must be writable); no byte of the surface and of the journal is written. */
 uint32_t lacrumont_play(uint32_t *surface, size_t surface_len, uint32_t width, uint32_t height, uint8_t *journal, size_t journal_len,
                         uint64_t *used, const uint8_t *record, size_t record_len, int32_t left, int32_t top, int32_t right,
                         int32_t bottom, uint32_t brush, uint32_t *pixels);

@@ -19,6 +19,9 @@ pub const LONGEST: usize = 16_777_216;
 /// Document 01's farthest corner.
 const FAR: i64 = 1_000_000;
 
+/// At least one side of a picture is not longer, to keep records short.
+const SHORT: i64 = 100;
+
 /// The surface a record is aimed at, so that most targets meet it.
 #[derive(Clone, Copy, Debug)]
 pub struct Aim {
@@ -411,8 +414,8 @@ pub fn sound(r: &mut Random, aim: Aim, wish: Wish) -> Record {
     // At most one side is large where the picture must be as large.
     let stretches = kind != MASK_BLIT;
     let large = match r.below(60) {
-        0 => [true, false],
-        1 => [false, true],
+        0 if stretches || aim.height <= SHORT as u32 => [true, false],
+        1 if stretches || aim.width <= SHORT as u32 => [false, true],
         2 if stretches => [true, true],
         _ => [false, false],
     };
@@ -434,7 +437,8 @@ pub fn sound(r: &mut Random, aim: Aim, wish: Wish) -> Record {
         let mut size = if stretches { sides(r) } else { [0; 2] };
         for axis in 0..2 {
             // Mask blits do not stretch; of the others some have the target's size by chance, on one axis or both.
-            let plain = !stretches || (size[axis] <= 80 && !(large[0] && large[1]) && r.percent(35));
+            let fits = covers[axis] <= SHORT || size[1 - axis] <= SHORT;
+            let plain = !stretches || (size[axis] <= SHORT && fits && r.percent(35));
             let n = if plain {
                 size[axis] = covers[axis] + r.below(7) as i64;
                 covers[axis]

@@ -333,7 +333,7 @@ fn spoil_header(r: &mut Random, record: &mut Record) {
             let length = bytes.len() + 1_200;
             bytes.resize(length, 0);
             set(bytes, 4, length as u32);
-            set(bytes, four + 4, length.wrapping_sub(at) as u32);
+            set(bytes, four + 4, (length - at) as u32);
             set(bytes, at + 32, r.pick(&[2, 3, 16, 17, 255, 256, 257, 258, 270]));
         }
     }
