@@ -23,9 +23,7 @@ pub fn header_part(s: &[u8], p: Picture) -> &[u8]
     requires { ⌜ p .bmi + p .«bmi_len» ≤ length (now s) ⌝ }
     ensures { λ r. ⌜ now r ≡ headerPart (now (s .entry)) p ⌝ }
 {
-    let from = p.bmi as usize;
-    let to = from + p.bmi_len as usize;
-    &s[from..to]
+    words::part(s, p.bmi as usize, p.bmi_len as usize)
 }
 
 // The header of a picture; of an absent one all is 0.

@@ -21,9 +21,7 @@ pub fn bits_part(s: &[u8], p: Picture) -> &[u8]
     requires { ⌜ p .bits + p .«bits_len» ≤ length (now s) ⌝ }
     ensures { λ r. ⌜ now r ≡ bitsPart (now (s .entry)) p ⌝ }
 {
-    let from = p.bits as usize;
-    let to = from + p.bits_len as usize;
-    &s[from..to]
+    words::part(s, p.bits as usize, p.bits_len as usize)
 }
 
 // 256 black colours.

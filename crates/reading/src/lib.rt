@@ -101,15 +101,6 @@ pub fn read(s: &[u8], mask: bool) -> Reading
     of_picture(s, p)
 }
 
-// A part of the record: its own bytes, where they stand.
-fn part(s: &[u8], at: usize, len: usize) -> &[u8]
-    requires { ⌜ at + len ≤ length (now s) ⌝ }
-    ensures { λ r. ⌜ (now r ≡ take len (drop at (now (s .entry)))) × (r .ptr ≡ (s .entry .ptr .0, s .entry .ptr .1 + at)) ⌝ }
-{
-    let to = at + len;
-    &s[at..to]
-}
-
 // The header part: all its bytes, the record's own.
 pub fn header_part(s: &[u8], mask: bool) -> &[u8]
     ensures { λ r. ⌜ (now r ≡ headerBytes (now (s .entry)) (readingOf (now (s .entry)) mask)) × (r .ptr ≡ (s .entry .ptr .0, s .entry .ptr .1 + readingOf (now (s .entry)) mask .«header_at»)) ⌝ }
@@ -117,7 +108,7 @@ pub fn header_part(s: &[u8], mask: bool) -> &[u8]
     let r = read(s, mask);
     let at = r.header_at;
     let len = r.header_len;
-    part(s, at, len)
+    words::part(s, at, len)
 }
 
 // The view's bytes: the first row length · rows of the bits part, the record's own.
@@ -127,7 +118,7 @@ pub fn view_part(s: &[u8], mask: bool) -> &[u8]
     let r = read(s, mask);
     let at = r.view_at;
     let len = r.view_len;
-    part(s, at, len)
+    words::part(s, at, len)
 }
 
 // ---- the palette

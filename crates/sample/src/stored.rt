@@ -63,7 +63,5 @@ pub fn row_bytes(bytes: &[u8], long: usize, row: usize) -> &[u8]
     requires { ⌜ (row + 1) * long ≤ length (now bytes) ⌝ }
     ensures { λ r. ⌜ now r ≡ rowBytes (now (bytes .entry)) long row ⌝ }
 {
-    let from = row * long;
-    let to = from + long;
-    &bytes[from..to]
+    words::part(bytes, row * long, long)
 }

@@ -4,7 +4,7 @@
 // The `load_` and `store_` functions are for inner loops and ask that the place lies in the slice.
 ghost use mathlib.Core.Path.{_≡_};
 ghost use Prim.Native.Nat.{_+_, _≤_, _<_};
-ghost use lib.ListN.{length};
+ghost use lib.ListN.{length, take, drop};
 ghost use lib.Seq.{sets};
 ghost use Rattle.words.specs.Bytes.{byteAt, le16, le24, le32, bytes32, signed32, magnitude32};
 ghost use Rattle.words.specs.Choice.{lowest as lowestOf};
@@ -14,6 +14,15 @@ pub fn wide(x: u8) -> u32
     ensures { λ r. ⌜ (r ≡ x) × (r < 256) ⌝ }
 {
     x as u32
+}
+
+// Bytes of s, by where they stand and how many they are: s's own.
+pub fn part(s: &[u8], at: usize, len: usize) -> &[u8]
+    requires { ⌜ at + len ≤ length (now s) ⌝ }
+    ensures { λ r. ⌜ (now r ≡ take len (drop at (now (s .entry)))) × (r .ptr ≡ (s .entry .ptr .0, s .entry .ptr .1 + at)) ⌝ }
+{
+    let to = at + len;
+    &s[at..to]
 }
 
 // ---- every place
