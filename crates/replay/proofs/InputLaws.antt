@@ -46,3 +46,7 @@ module _ (p : Place) (b d ys : List ℕ) (read : ℕ) (more : Bool) (held : Held
 -- what lies in the bytes from `at` to `end`
 pub stays : (at end size : ℕ) (l : List ℕ) → at ≤ end → size ≤ length (take (end - at) (drop at l)) → at + size ≤ end
 stays at end size l order h = omega (arith, length-take (end - at) (drop at l))
+
+-- the first n of at least n
+pub whole : (n : ℕ) (l : List ℕ) → n ≤ length l → n ≤ length (take n l)
+whole n l h = omega (arith, length-take-le n l h)

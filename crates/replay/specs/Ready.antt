@@ -5,7 +5,7 @@ use Prim.Native.Nat.{ℕ, _+_, _-_, _≤_, _<_}
 use lib.ListN.{getD}
 use Rattle.replay.specs.declared.frame.Frame.{Frame}
 use Rattle.replay.specs.declared.input.Place.{Place}
-use Rattle.replay.specs.declared.state.State.{State}
+use Rattle.answers.specs.declared.State.{State}
 use Rattle.replay.specs.declared.turns.Turn.{Turn}
 
 -- the place lies in what the buffer holds

@@ -4,9 +4,8 @@ ghost use mathlib.Core.Path.{_≡_};
 ghost use lib.ListN.{length};
 ghost use Rattle.replay.specs.Ready.{Found, Lends, Waits, Same};
 use crate::frame::Frame;
-use crate::made;
 use crate::output;
-use crate::state::State;
+use answers::State;
 use player::Answer;
 
 // The script has a fault: nothing follows.
@@ -56,7 +55,7 @@ fn play(
 {
     let from = f.from;
     let to = f.to;
-    let a = made::play(surface, journal, s, &bytes[from..to], bytes);
+    let a = answers::play(surface, journal, s, &bytes[from..to], bytes);
     answered(output, s, a)
 }
 
@@ -64,7 +63,7 @@ fn undo(surface: &mut [u32], journal: &[u8], output: &mut [u8], s: State) -> Sta
     requires { ⌜ Lends s (length (now surface)) (length (now journal)) × Waits s (length (now output)) ⌝ }
     ensures { λ r. ⌜ Same s r × Waits r (length (now (output .entry))) ⌝ }
 {
-    let a = made::undo(surface, journal, s);
+    let a = answers::undo(surface, journal, s);
     answered(output, s, a)
 }
 
@@ -78,7 +77,7 @@ fn read(output: &mut [u8], bytes: &[u8], f: Frame, s: State) -> State
     }
     let from = f.from;
     let to = f.to;
-    let numbers = made::read(&bytes[from..to], which == 1);
+    let numbers = answers::read(&bytes[from..to], which == 1);
     let mut r = s;
     r.waiting = output::line(output, s.waiting, &numbers);
     r

@@ -7,9 +7,9 @@ use crate::calls;
 use crate::input;
 use crate::input::Place;
 use crate::output;
-use crate::state::State;
 use crate::turns;
 use crate::turns::Turn;
+use answers::State;
 
 // Before the head was read, and where it has a fault.
 fn nothing() -> State

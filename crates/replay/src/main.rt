@@ -4,9 +4,7 @@ mod calls;
 mod frame;
 mod head;
 mod input;
-mod made;
 mod output;
-mod state;
 mod turns;
 
 fn main() {

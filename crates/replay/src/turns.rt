@@ -5,7 +5,7 @@ use crate::calls;
 use crate::frame;
 use crate::input;
 use crate::input::Place;
-use crate::state::State;
+use answers::State;
 
 // The script's place, and what the calls so far have left.
 pub struct Turn {

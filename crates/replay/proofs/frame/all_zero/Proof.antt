@@ -5,8 +5,6 @@ use lib.ListN.{length, getD}
 use borrow.Author.Count.{below-none, below-more}
 use Rattle.replay.proofs.frame.all_zero.Statement.{statement}
 use Rattle.replay.proofs.frame.all_zero.Tie as tie
-use Rattle.replay.proofs.frame.all_zero.Reads as reads
-use Rattle.replay.proofs.frame.all_zero.Lts as lts
 
 abbrev Inv-loop : tie.InvT-loop
 Inv-loop s k₀ k = (k ≤ length s) × ((j : ℕ) → j < k → getD s j 0 ≡ 0)
@@ -14,31 +12,24 @@ Inv-loop s k₀ k = (k ≤ length s) × ((j : ℕ) → j < k → getD s j 0 ≡ 
 abbrev μ-loop : tie.MeasureT-loop
 μ-loop s k₀ k = length s - k
 
--- src/input.rt:111:5
 loop-holds : tie.Need-loop-holds Inv-loop μ-loop
 loop-holds c = (omega arith, below-none _)
 
--- src/input.rt:112:12
 shared-slice-read-if1 : tie.Need-shared-slice-read-if1 Inv-loop μ-loop
 shared-slice-read-if1 c = omega arith
 
--- src/input.rt:113:13
 returns : tie.Need-returns Inv-loop μ-loop
 returns c = λ e k l. cc e
 
--- src/input.rt:115:9
 add-k : tie.Need-add-k Inv-loop μ-loop
 add-k c = omega arith
 
--- src/input.rt:111:5
 loop-less : tie.Need-loop-less Inv-loop μ-loop
 loop-less c = omega arith
 
--- src/input.rt:111:5
 loop-again : tie.Need-loop-again Inv-loop μ-loop
 loop-again c = (omega arith, below-more _ _ (c .before .before .before .loop .inv .1) (c .if1 .left))
 
--- src/input.rt:109:1
 returns-2 : tie.Need-returns-2 Inv-loop μ-loop
 returns-2 c = λ e k l. let m : k < c .before .loop .k = omega arith in c .before .loop .inv .1 k m
 

@@ -1,40 +1,30 @@
 use mathlib.Core.Path.{sym}
 use native.Mathlib.Omega.{arith}
 use lib.Seq.{length-take-le}
-use Rattle.replay.proofs.CallLaws.{whole}
+use Rattle.replay.proofs.InputLaws.{whole}
 use borrow.Author.Needs.{needs}
 use Rattle.replay.proofs.head.script.Statement.{statement}
 use Rattle.replay.proofs.head.script.Tie as tie
-use Rattle.replay.proofs.head.script.Reads as reads
-use Rattle.replay.proofs.head.script.Lts as lts
-use Rattle.replay.proofs.head.calls_and_sums.Reads as calls-and-sums-reads
-use Rattle.replay.proofs.head.start.Reads as start-reads
 
--- src/head.rt:174:9
 start-requires : tie.Need-start-requires
 start-requires c κs = search needs
 
--- src/head.rt:179:9
 slice-relend-prefix-calls-and-sums : tie.Need-slice-relend-prefix-calls-and-sums
 slice-relend-prefix-calls-and-sums c = search needs
 
--- src/head.rt:179:9
 slice-aggregate-calls-and-sums : tie.Need-slice-aggregate-calls-and-sums
 slice-aggregate-calls-and-sums c =
     let head = c .before .before .before .before .before .before .before .before .start in
     sym (length-take-le _ _ (omega (arith, head .ensures .1 .pixels, head .kept .0)))
 
--- src/head.rt:180:9
 slice-relend-prefix-calls-and-sums-2 : tie.Need-slice-relend-prefix-calls-and-sums-2
 slice-relend-prefix-calls-and-sums-2 c = search needs
 
--- src/head.rt:180:9
 slice-aggregate-calls-and-sums-2 : tie.Need-slice-aggregate-calls-and-sums-2
 slice-aggregate-calls-and-sums-2 c =
     let head = c .before .before .before .before .before .before .before .before .before .start in
     sym (length-take-le _ _ (omega (arith, head .ensures .1 .bytes, head .kept .1 .0)))
 
--- src/head.rt:178:5
 calls-and-sums-requires : tie.Need-calls-and-sums-requires
 calls-and-sums-requires c κs =
     let head = c .before .before .before .before .before .before .before .before .before .before .before .start in
@@ -47,23 +37,18 @@ calls-and-sums-requires c κs =
       text = record { waiting = omega (arith, head .ensures .2); room = c .before .before .before .before .before .before .before .before .before .before .before .before .before .before .before .before .before .before .before .pre };
     }
 
--- src/head.rt:166:1
 same-length : tie.Need-same-length
 same-length c = search needs
 
--- src/head.rt:166:1
 same-length-2 : tie.Need-same-length-2
 same-length-2 c = search needs
 
--- src/head.rt:166:1
 same-length-3 : tie.Need-same-length-3
 same-length-3 c = search needs
 
--- src/head.rt:166:1
 same-length-4 : tie.Need-same-length-4
 same-length-4 c = search needs
 
--- src/head.rt:166:1
 returns : tie.Need-returns
 returns c = search needs
 

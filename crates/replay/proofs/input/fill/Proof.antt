@@ -6,10 +6,6 @@ use borrow.Author.Needs.{needs}
 use Rattle.replay.specs.Ready.{Held}
 use Rattle.replay.proofs.input.fill.Statement.{statement}
 use Rattle.replay.proofs.input.fill.Tie as tie
-use Rattle.replay.proofs.input.fill.Reads as reads
-use Rattle.replay.proofs.input.fill.Lts as lts
-use Rattle.replay.proofs.input.ahead.Reads as ahead-reads
-use Rattle.words.proofs.read_u32.Reads as read-u32-reads
 
 abbrev Inv-loop : tie.InvT-loop
 Inv-loop buffer₀ to₀ p₀ k₀ buffer to p k =
@@ -18,67 +14,51 @@ Inv-loop buffer₀ to₀ p₀ k₀ buffer to p k =
 abbrev μ-loop : tie.MeasureT-loop
 μ-loop buffer₀ to₀ p₀ k₀ buffer to p k = length to₀ - k
 
--- src/input.rt:67:5
 loop-holds : tie.Need-loop-holds Inv-loop μ-loop
 loop-holds c = search needs
 
--- src/input.rt:68:9
 ahead-requires : tie.Need-ahead-requires Inv-loop μ-loop
 ahead-requires c κs = search needs
 
--- src/input.rt:70:12
 sub-if1 : tie.Need-sub-if1 Inv-loop μ-loop
 sub-if1 c = search needs
 
--- src/input.rt:72:13
 same-length : tie.Need-same-length Inv-loop μ-loop
 same-length c = search needs
 
--- src/input.rt:72:13
 same-length-2 : tie.Need-same-length-2 Inv-loop μ-loop
 same-length-2 c = search needs
 
--- src/input.rt:72:13
 returns : tie.Need-returns Inv-loop μ-loop
 returns c = search needs
 
--- src/input.rt:74:17
 read-u32-requires : tie.Need-read-u32-requires Inv-loop μ-loop
 read-u32-requires c κs = search needs
 
--- src/input.rt:74:9
 mul-to : tie.Need-mul-to Inv-loop μ-loop
 mul-to c = search needs
 
--- src/input.rt:74:9
 slice-write-to : tie.Need-slice-write-to Inv-loop μ-loop
 slice-write-to c = search needs
 
--- src/input.rt:75:16
 add-p : tie.Need-add-p Inv-loop μ-loop
 add-p c = search needs
 
--- src/input.rt:76:9
 add-k : tie.Need-add-k Inv-loop μ-loop
 add-k c = search needs
 
--- src/input.rt:67:5
 loop-less : tie.Need-loop-less Inv-loop μ-loop
 loop-less c = search needs
 
--- src/input.rt:67:5
 loop-again : tie.Need-loop-again Inv-loop μ-loop
 loop-again c = (search needs, omega arith, simp length-set (omega arith), omega arith)
 
--- src/input.rt:61:1
 same-length-3 : tie.Need-same-length-3 Inv-loop μ-loop
 same-length-3 c = search needs
 
--- src/input.rt:61:1
 same-length-4 : tie.Need-same-length-4 Inv-loop μ-loop
 same-length-4 c = search needs
 
--- src/input.rt:61:1
 returns-2 : tie.Need-returns-2 Inv-loop μ-loop
 returns-2 c = search needs
 

@@ -6,8 +6,6 @@ use Rattle.words.specs.Filled.{Filled}
 use Rattle.words.proofs.FillLaws.{filled-none, filled-more, filled-to}
 use Rattle.replay.proofs.input.shift.Statement.{statement}
 use Rattle.replay.proofs.input.shift.Tie as tie
-use Rattle.replay.proofs.input.shift.Reads as reads
-use Rattle.replay.proofs.input.shift.Lts as lts
 
 abbrev Inv-loop : tie.InvT-loop
 Inv-loop buffer₀ from count k₀ buffer k = (k ≤ count) × Filled (λ j. getD buffer₀ (from + j) 0) buffer₀ k buffer
@@ -15,31 +13,24 @@ Inv-loop buffer₀ from count k₀ buffer k = (k ≤ count) × Filled (λ j. get
 abbrev μ-loop : tie.MeasureT-loop
 μ-loop buffer₀ from count k₀ buffer k = count - k
 
--- src/input.rt:37:5
 loop-holds : tie.Need-loop-holds Inv-loop μ-loop
 loop-holds c = (omega arith, filled-none _ _)
 
--- src/input.rt:38:28
 add-buffer : tie.Need-add-buffer Inv-loop μ-loop
 add-buffer c = omega arith
 
--- src/input.rt:38:21
 slice-read-buffer : tie.Need-slice-read-buffer Inv-loop μ-loop
 slice-read-buffer c = omega arith
 
--- src/input.rt:38:9
 slice-write-buffer : tie.Need-slice-write-buffer Inv-loop μ-loop
 slice-write-buffer c = omega arith
 
--- src/input.rt:39:9
 add-k : tie.Need-add-k Inv-loop μ-loop
 add-k c = omega arith
 
--- src/input.rt:37:5
 loop-less : tie.Need-loop-less Inv-loop μ-loop
 loop-less c = omega arith
 
--- src/input.rt:37:5
 loop-again : tie.Need-loop-again Inv-loop μ-loop
 loop-again c =
     let loop = c .before .before .loop in
@@ -47,11 +38,9 @@ loop-again c =
     let behind : loop .k ≤ start .args .from + loop .k = omega arith in
     (omega arith, filled-more _ _ _ _ _ (omega arith) (loop .inv .1) (loop .inv .1 .back (start .args .from + loop .k) behind))
 
--- src/input.rt:33:1
 same-length : tie.Need-same-length Inv-loop μ-loop
 same-length c = c .before .loop .inv .1 .long
 
--- src/input.rt:33:1
 returns : tie.Need-returns Inv-loop μ-loop
 returns c = filled-to (omega arith) (c .before .loop .inv .1)
 

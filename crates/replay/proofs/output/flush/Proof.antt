@@ -3,19 +3,13 @@ use lib.Seq.{length-take-le}
 use borrow.Author.Needs.{needs}
 use Rattle.replay.proofs.output.flush.Statement.{statement}
 use Rattle.replay.proofs.output.flush.Tie as tie
-use Rattle.replay.proofs.output.flush.Reads as reads
-use Rattle.replay.proofs.output.flush.Lts as lts
-use Rattle.io.proofs.write_all.Reads as write-all-reads
 
--- src/output.rt:8:22
 slice-aggregate-write-all : tie.Need-slice-aggregate-write-all
 slice-aggregate-write-all c = sym (length-take-le _ _ (c .before .before .pre))
 
--- src/output.rt:8:5
 write-all-requires : tie.Need-write-all-requires
 write-all-requires c κs = search needs
 
--- src/output.rt:5:1
 returns : tie.Need-returns
 returns c = search needs
 

@@ -5,9 +5,6 @@ use lib.ListN.{length, length-set}
 use borrow.Author.Needs.{needs}
 use Rattle.replay.proofs.output.line.Statement.{statement}
 use Rattle.replay.proofs.output.line.Tie as tie
-use Rattle.replay.proofs.output.line.Reads as reads
-use Rattle.replay.proofs.output.line.Lts as lts
-use Rattle.replay.proofs.output.number.Reads as number-reads
 
 abbrev Inv-loop : tie.InvT-loop
 Inv-loop buffer₀ waiting s at₀ left₀ buffer at left =
@@ -16,43 +13,33 @@ Inv-loop buffer₀ waiting s at₀ left₀ buffer at left =
 abbrev μ-loop : tie.MeasureT-loop
 μ-loop buffer₀ waiting s at₀ left₀ buffer at left = left
 
--- src/output.rt:48:5
 loop-holds : tie.Need-loop-holds Inv-loop μ-loop
 loop-holds c = omega arith
 
--- src/output.rt:49:17
 sub-k : tie.Need-sub-k Inv-loop μ-loop
 sub-k c = omega arith
 
--- src/output.rt:50:9
 sub-left : tie.Need-sub-left Inv-loop μ-loop
 sub-left c = omega arith
 
--- src/output.rt:52:33
 mul-number : tie.Need-mul-number Inv-loop μ-loop
 mul-number c = omega arith
 
--- src/output.rt:52:33
 shared-slice-read-number : tie.Need-shared-slice-read-number Inv-loop μ-loop
 shared-slice-read-number c = omega arith
 
--- src/output.rt:52:9
 number-requires : tie.Need-number-requires Inv-loop μ-loop
 number-requires c κs = omega arith
 
--- src/output.rt:48:5
 loop-less : tie.Need-loop-less Inv-loop μ-loop
 loop-less c = omega arith
 
--- src/output.rt:48:5
 loop-again : tie.Need-loop-again Inv-loop μ-loop
 loop-again c = omega arith
 
--- src/output.rt:42:1
 same-length : tie.Need-same-length Inv-loop μ-loop
 same-length c = omega arith
 
--- src/output.rt:42:1
 returns : tie.Need-returns Inv-loop μ-loop
 returns c = omega arith
 

@@ -4,10 +4,6 @@ use borrow.Author.Needs.{needs}
 use Rattle.replay.specs.Ready.{Ready}
 use Rattle.replay.proofs.turns.all.Statement.{statement}
 use Rattle.replay.proofs.turns.all.Tie as tie
-use Rattle.replay.proofs.turns.all.Reads as reads
-use Rattle.replay.proofs.turns.all.Lts as lts
-use Rattle.replay.proofs.calls.faulty.Reads as faulty-reads
-use Rattle.replay.proofs.turns.one.Reads as one-reads
 
 abbrev Inv-loop : tie.InvT-loop
 Inv-loop surface₀ journal₀ input₀ output₀ t₀ turns₀ surface journal input output t turns =
@@ -18,67 +14,51 @@ abbrev μ-loop : tie.MeasureT-loop
 μ-loop surface₀ journal₀ input₀ output₀ t₀ turns₀ surface journal input output t turns =
     turns
 
--- src/turns.rt:64:5
 loop-holds : tie.Need-loop-holds Inv-loop μ-loop
 loop-holds c = search needs
 
--- src/turns.rt:67:13
 same-length : tie.Need-same-length Inv-loop μ-loop
 same-length c = search needs
 
--- src/turns.rt:67:13
 same-length-2 : tie.Need-same-length-2 Inv-loop μ-loop
 same-length-2 c = search needs
 
--- src/turns.rt:67:13
 same-length-3 : tie.Need-same-length-3 Inv-loop μ-loop
 same-length-3 c = search needs
 
--- src/turns.rt:67:13
 same-length-4 : tie.Need-same-length-4 Inv-loop μ-loop
 same-length-4 c = search needs
 
--- src/turns.rt:67:13
 returns : tie.Need-returns Inv-loop μ-loop
 returns c = search needs
 
--- src/turns.rt:69:9
 sub-turns : tie.Need-sub-turns Inv-loop μ-loop
 sub-turns c = search needs
 
--- src/turns.rt:70:9
 one-requires : tie.Need-one-requires Inv-loop μ-loop
 one-requires c κs = search needs
 
--- src/turns.rt:64:5
 loop-less : tie.Need-loop-less Inv-loop μ-loop
 loop-less c = search needs
 
--- src/turns.rt:64:5
 loop-again : tie.Need-loop-again Inv-loop μ-loop
 loop-again c = search needs
 
--- src/turns.rt:73:5
 faulty-requires : tie.Need-faulty-requires Inv-loop μ-loop
 faulty-requires c κs = search needs
 
--- src/turns.rt:52:1
 same-length-5 : tie.Need-same-length-5 Inv-loop μ-loop
 same-length-5 c = search needs
 
--- src/turns.rt:52:1
 same-length-6 : tie.Need-same-length-6 Inv-loop μ-loop
 same-length-6 c = search needs
 
--- src/turns.rt:52:1
 same-length-7 : tie.Need-same-length-7 Inv-loop μ-loop
 same-length-7 c = search needs
 
--- src/turns.rt:52:1
 same-length-8 : tie.Need-same-length-8 Inv-loop μ-loop
 same-length-8 c = search needs
 
--- src/turns.rt:52:1
 returns-2 : tie.Need-returns-2 Inv-loop μ-loop
 returns-2 c = search needs
 

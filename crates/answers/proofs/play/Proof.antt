@@ -4,53 +4,38 @@ use Prim.Native.Nat.{ℕ}
 use lib.ListN.{take, drop}
 use lib.Seq.{length-take-le}
 use Rattle.player.specs.Left.{left}
-use Rattle.replay.proofs.CallLaws.{front, rest, asked}
+use Rattle.answers.proofs.AskedLaws.{front, rest, asked}
 use borrow.Author.Needs.{needs}
-use Rattle.replay.proofs.made.play.Statement.{statement}
-use Rattle.replay.proofs.made.play.Tie as tie
-use Rattle.replay.proofs.made.play.Reads as reads
-use Rattle.replay.proofs.made.play.Lts as lts
-use Rattle.player.proofs.play.Reads as play-reads
-use Rattle.replay.proofs.made.clip_in.Reads as clip-in-reads
-use Rattle.words.proofs.read_u32.Reads as read-u32-reads
+use Rattle.answers.proofs.play.Statement.{statement}
+use Rattle.answers.proofs.play.Tie as tie
 
--- src/made.rt:32:9
 clip-in-requires : tie.Need-clip-in-requires
 clip-in-requires c κs = search needs
 
--- src/made.rt:33:9
 read-u32-requires : tie.Need-read-u32-requires
 read-u32-requires c κs = search needs
 
--- src/made.rt:37:9
 slice-relend-prefix-play : tie.Need-slice-relend-prefix-play
 slice-relend-prefix-play c = search needs
 
--- src/made.rt:37:9
 slice-aggregate-play : tie.Need-slice-aggregate-play
 slice-aggregate-play c = sym (length-take-le _ _ (c .before .before .before .before .before .before .before .pre .0))
 
--- src/made.rt:40:9
 slice-relend-prefix-play-2 : tie.Need-slice-relend-prefix-play-2
 slice-relend-prefix-play-2 c = search needs
 
--- src/made.rt:40:9
 slice-aggregate-play-2 : tie.Need-slice-aggregate-play-2
 slice-aggregate-play-2 c = sym (length-take-le _ _ (c .before .before .before .before .before .before .before .before .pre .1))
 
--- src/made.rt:36:5
 play-requires : tie.Need-play-requires
 play-requires c κs = search needs
 
--- src/made.rt:27:1
 same-length : tie.Need-same-length
 same-length c = search needs
 
--- src/made.rt:27:1
 same-length-2 : tie.Need-same-length-2
 same-length-2 c = search needs
 
--- src/made.rt:27:1
 returns : tie.Need-returns
 returns c =
     let start = c .before .before .before .before .before .before .before .before .before .before .before .before .before in

@@ -3,7 +3,6 @@ use mathlib.Core.Path.{_≡_, refl, sym, ap, _∙_}
 use mathlib.Core.Bool.{Bool, true, false}
 use mathlib.Core.List.{List, _++_}
 use Prim.Native.Nat.{ℕ, _≤_}
-use native.Mathlib.Omega.{arith}
 use lib.ListN.{length, take, drop}
 use lib.Seq.{length-take-le, length-front, take-at, drop-at}
 use mir.Val.{boolByte}
@@ -15,7 +14,7 @@ use Rattle.words.specs.Bytes.{le32}
 use Rattle.region.specs.declared.Rectangle.{Rectangle}
 use Rattle.lent.specs.Lent.{Lent}
 use Rattle.player.specs.Calls.{playWith, play as playOf}
-use Rattle.replay.specs.Calls.{Rest, clipIn, playAsked, lineOf, readLine}
+use Rattle.answers.specs.Asked.{Rest, clipIn, playAsked, lineOf, readLine}
 
 pub flag : (b : Bool) → boolByte b ≡ pick b 1 0
 flag true = refl
@@ -40,7 +39,3 @@ line-read s mask r h v p hs vs ps n er eh ehs ev evs ep eps en = cc
 pub asked : (width height : ℕ) (m : Lent) (front s : List ℕ) (clip : Rectangle) (brush : ℕ) → clip ≡ clipIn front → brush ≡ le32 front 20
     → playOf width height (playWith s clip brush) m ≡ playOf width height (playAsked s front) m
 asked width height m front s clip brush ec eb = cc
-
--- the first n of at least n
-pub whole : (n : ℕ) (l : List ℕ) → n ≤ length l → n ≤ length (take n l)
-whole n l h = omega (arith, length-take-le n l h)

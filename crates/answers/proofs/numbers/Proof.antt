@@ -1,53 +1,40 @@
 use borrow.Author.Needs.{needs}
-use Rattle.replay.proofs.CallLaws.{flag}
+use Rattle.answers.proofs.AskedLaws.{flag}
 use native.Mathlib.Omega.{arith}
-use Rattle.replay.specs.Calls.{lineOf}
-use Rattle.replay.proofs.made.numbers.Statement.{statement}
-use Rattle.replay.proofs.made.numbers.Tie as tie
-use Rattle.replay.proofs.made.numbers.Reads as reads
-use Rattle.replay.proofs.made.numbers.Lts as lts
+use Rattle.answers.specs.Asked.{lineOf}
+use Rattle.answers.proofs.numbers.Statement.{statement}
+use Rattle.answers.proofs.numbers.Tie as tie
 
--- src/made.rt:74:9
 cast-t5 : tie.Need-cast-t5
 cast-t5 c = omega (arith, c .struct-known .given .0)
 
--- src/made.rt:79:9
 cast-t8 : tie.Need-cast-t8
 cast-t8 c = omega (arith, c .struct-known2 .given .1 .1 .1 .1 .1 .0)
 
--- src/made.rt:80:9
 cast-t9 : tie.Need-cast-t9
 cast-t9 c = omega (arith, c .struct-known3 .given .1 .1 .1 .1 .1 .1 .0)
 
--- src/made.rt:81:9
 cast-t10 : tie.Need-cast-t10
 cast-t10 c = omega (arith, c .struct-known4 .given .1 .1 .1 .1 .1 .1 .1 .0)
 
--- src/made.rt:82:9
 cast-t11 : tie.Need-cast-t11
 cast-t11 c = omega (arith, c .struct-known5 .given .1 .1 .1 .1 .1 .1 .1 .1 .0)
 
--- src/made.rt:83:9
 cast-t12 : tie.Need-cast-t12
 cast-t12 c = search needs
 
--- src/made.rt:84:9
 cast-t13 : tie.Need-cast-t13
 cast-t13 c = omega (arith, c .struct-known7 .given .1 .1 .1 .1 .1 .1 .1 .1 .1 .1 .0)
 
--- src/made.rt:85:9
 cast-t14 : tie.Need-cast-t14
 cast-t14 c = omega (arith, c .struct-known8 .given .1 .1 .1 .1 .1 .1 .1 .1 .1 .1 .1 .0)
 
--- src/made.rt:86:9
 cast-t15 : tie.Need-cast-t15
 cast-t15 c = omega (arith, c .struct-known9 .given .1 .1 .1 .1 .1 .1 .1 .1 .1 .1 .1 .1 .0)
 
--- src/made.rt:87:9
 cast-t16 : tie.Need-cast-t16
 cast-t16 c = omega (arith, c .struct-known10 .given .1 .1 .1 .1 .1 .1 .1 .1 .1 .1 .1 .1 .1 .0)
 
--- src/made.rt:70:1
 returns : tie.Need-returns
 unfolding lineOf
 returns c = rw (flag (c .before .before .before .before .before .before .before .before .before .before .args .r .«top_down»))

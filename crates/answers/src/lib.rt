@@ -1,4 +1,4 @@
-// The library's calls, on what is lent of the surface and the journal.
+// The library's calls as a script asks for them, on what is lent of the surface and the journal.
 ghost use mathlib.Core.Path.{_≡_};
 ghost use Prim.Native.Nat.{_≤_};
 ghost use lib.ListN.{length, take, drop};
@@ -6,11 +6,23 @@ ghost use Rattle.lent.specs.Lent.{lent as lentOf};
 ghost use Rattle.lent.specs.Undoing.{undoOf};
 ghost use Rattle.player.specs.Calls.{play as playOf};
 ghost use Rattle.player.specs.Left.{left};
-ghost use Rattle.replay.specs.Calls.{Rest, clipIn, playAsked, lineOf, readLine};
-use crate::state::State;
+ghost use Rattle.answers.specs.Asked.{Rest, clipIn, playAsked, lineOf, readLine};
 use player::Answer;
 use reading::Reading;
 use region::Rectangle;
+
+// What a call leaves for the next one: what the calls are lent (sides, pixels, journal bytes, and the journal's records in use),
+// the bytes that wait to be printed, whether another call may follow, and whether the script is free of faults so far.
+pub struct State {
+    pub width: u32,
+    pub height: u32,
+    pub pixels: usize,
+    pub bytes: usize,
+    pub used: u64,
+    pub waiting: usize,
+    pub more: bool,
+    pub good: bool,
+}
 
 fn clip_in(front: &[u8]) -> Rectangle
     ensures { λ r. ⌜ r ≡ clipIn (now (front .entry)) ⌝ }

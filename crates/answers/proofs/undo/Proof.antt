@@ -5,35 +5,26 @@ use lib.ListN.{take}
 use lib.Seq.{length-take-le}
 use Rattle.player.specs.Left.{left}
 use Rattle.lent.specs.Lent.{Outcome}
-use Rattle.replay.proofs.CallLaws.{front, rest}
+use Rattle.answers.proofs.AskedLaws.{front, rest}
 use borrow.Author.Needs.{needs}
-use Rattle.replay.proofs.made.undo.Statement.{statement}
-use Rattle.replay.proofs.made.undo.Tie as tie
-use Rattle.replay.proofs.made.undo.Reads as reads
-use Rattle.replay.proofs.made.undo.Lts as lts
-use Rattle.player.proofs.undo.Reads as undo-reads
+use Rattle.answers.proofs.undo.Statement.{statement}
+use Rattle.answers.proofs.undo.Tie as tie
 
--- src/made.rt:51:9
 slice-relend-prefix-undo : tie.Need-slice-relend-prefix-undo
 slice-relend-prefix-undo c = search needs
 
--- src/made.rt:51:9
 slice-aggregate-undo : tie.Need-slice-aggregate-undo
 slice-aggregate-undo c = sym (length-take-le _ _ (c .before .before .before .pre .0))
 
--- src/made.rt:54:9
 slice-aggregate-undo-2 : tie.Need-slice-aggregate-undo-2
 slice-aggregate-undo-2 c = sym (length-take-le _ _ (c .before .before .before .before .pre .1))
 
--- src/made.rt:50:5
 undo-requires : tie.Need-undo-requires
 undo-requires c κs = search needs
 
--- src/made.rt:43:1
 same-length : tie.Need-same-length
 same-length c = search needs
 
--- src/made.rt:43:1
 returns : tie.Need-returns
 returns c =
     let start = c .before .before .before .before .before .before .before in
