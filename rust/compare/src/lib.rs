@@ -11,4 +11,5 @@ pub mod memory;
 pub mod random;
 pub mod records;
 pub mod run;
+pub mod scripts;
 pub mod tally;
