@@ -1,14 +1,14 @@
 -- What an accepted record means, as a value: drawing is defined on it and never looks at the record's bytes. Definitions only.
-use Prim.Native.Nat.{ℕ, _+_, _-_}
+use Prim.Native.Nat.{ℕ}
 use mathlib.Core.List.{List}
 use lib.Dec.{eqb}
 use Rattle.words.specs.Choice.{pick}
 use Rattle.emr.specs.declared.Numbers.{Numbers}
 use Rattle.emr.specs.Numbers.{numbersOf}
 use Rattle.judge.specs.Operation.{constantAlpha, alphaFormat, background, foreground, rop}
-use Rattle.region.specs.declared.Axis.{Axis}
 use Rattle.region.specs.declared.Target.{Target}
 use Rattle.region.specs.declared.Rectangle.{Rectangle}
+use Rattle.region.specs.Axis.{within}
 use Rattle.region.specs.Target.{targetOf, placesIn}
 use Rattle.journal.specs.Drawing.{Paint, Work}
 use Rattle.paint.specs.declared.Rule.{Rule}
@@ -57,10 +57,6 @@ unfoldable pub meaningOf : List ℕ → Meaning
 meaningOf s = meaningIn s (numbersOf s)
 
 -- ---- drawing it
-
--- the number of a surface's column (or row) in the whole target
-abbrev pub within : Axis → ℕ → ℕ
-within a x = a .index + (x - a .at)
 
 -- what a pixel of the clipped target t becomes
 abbrev pub paintOn : Target → Meaning → (brush : ℕ) → Paint

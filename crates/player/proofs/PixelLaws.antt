@@ -1,35 +1,49 @@
 -- Condition 2 pixel by pixel. Assumes nothing.
 use mathlib.Core.Path.{_≡_, subst}
 use mathlib.Core.List.{List}
-use Prim.Native.Nat.{ℕ, _+_, _-_, _*_, _≤_, _<_}
+use Prim.Native.Nat.{ℕ, _+_, _-_, _*_, _^_, _≤_, _<_}
 use native.Mathlib.Nat.{mul-comm, mul-le-mul-right}
 use native.Mathlib.Omega.{arith}
 use lib.ListN.{length}
+use Rattle.words.specs.Bytes.{le32}
+use Rattle.words.proofs.ByteLaws.{le-lt}
+use Rattle.emr.specs.Numbers.{numbersOf}
 use Rattle.region.specs.declared.Target.{Target}
+use Rattle.region.specs.declared.Rectangle.{Rectangle}
 use Rattle.region.specs.Target.{placesIn}
+use Rattle.region.specs.Exact.{Covers, Words, Exact}
+use Rattle.region.proofs.ExactLaws.{exact}
 use Rattle.region.proofs.TargetLaws.{On, inside, length-places}
 use Rattle.journal.specs.Drawing.{Paint, drawn}
 use Rattle.journal.proofs.PointwiseLaws.{drawn-inside, drawn-outside, saved-before}
 use Rattle.meaning.specs.Meaning.{Meaning, meaningOf, paintOn, targetIn, workOf}
 use Rattle.player.specs.Calls.{work}
-use Rattle.player.specs.Pixels.{Covers, pixel, PixelByPixel}
+use Rattle.player.specs.Pixels.{Bytes, pixel, PixelByPixel}
 
 -- a target on the surface, drawn by any rule
 module _ (w h : ℕ) (f : Paint) (t : Target) (on : On w (t .columns) × On h (t .rows)) (s : List ℕ) where
   covered : length s ≡ w * h → (x y : ℕ) → Covers t x y → pixel w (drawn w f (placesIn t) s) x y ≡ f (pixel w s x y) x y
   covered e x y c =
-      let a : t .columns .at + (x - t .columns .at) ≡ x = omega (arith, c .left) in
-      let b : t .rows .at + (y - t .rows .at) ≡ y = omega (arith, c .top) in
-      let m : (t .rows .at + t .rows .count) * w ≤ h * w = mul-le-mul-right w (on .1 .ends (omega (arith, c .top, c .bottom))) in
+      let a : t .columns .at + (x - t .columns .at) ≡ x = omega (arith, c .column-in .left) in
+      let b : t .rows .at + (y - t .rows .at) ≡ y = omega (arith, c .row-in .left) in
+      let m : (t .rows .at + t .rows .count) * w ≤ h * w = mul-le-mul-right w (on .1 .ends (omega (arith, c .row-in .left, c .row-in .right))) in
       subst (λ (y : ℕ). pixel w (drawn w f (placesIn t) s) x y ≡ f (pixel w s x y) x y) b
       (subst (λ (x : ℕ). pixel w (drawn w f (placesIn t) s) x (t .rows .at + (y - t .rows .at)) ≡ f (pixel w s x (t .rows .at + (y - t .rows .at))) x (t .rows .at + (y - t .rows .at))) a
       (drawn-inside w f (t .columns .at) (t .columns .count) (t .rows .at) (t .rows .count) (x - t .columns .at) (y - t .rows .at) s
-      (omega (arith, c .left, c .right)) (omega (arith, c .top, c .bottom)) (on .0 .ends (omega (arith, c .left, c .right))) (omega (arith, m, e, mul-comm h w))))
+      (omega (arith, c .column-in .left, c .column-in .right)) (omega (arith, c .row-in .left, c .row-in .right)) (on .0 .ends (omega (arith, c .column-in .left, c .column-in .right))) (omega (arith, m, e, mul-comm h w))))
 
   not-covered : (x y : ℕ) → x < w → (Covers t x y → ⊥) → pixel w (drawn w f (placesIn t) s) x y ≡ pixel w s x y
   not-covered x y l g =
       drawn-outside w f x y l (t .columns .at) (t .columns .count) (t .rows .at) (t .rows .count) s (on .0 .ends)
-      (λ a b c d. g (record { left = c; right = d; top = a; bottom = b }))
+      (λ a b c d. g (record { column-in = record { left = c; right = d }; row-in = record { left = a; right = b } }))
+
+-- a record's target is the one that document 01 describes
+target-exact : (w h : ℕ) (s : List ℕ) (clip : Rectangle) → Bytes s → Words clip
+    → Exact w h clip (meaningOf s .bounds) (meaningOf s .x) (meaningOf s .y) (meaningOf s .cx) (meaningOf s .cy) (targetIn w h (meaningOf s) clip)
+unfolding meaningOf numbersOf
+target-exact w h s clip b c =
+    let word : (at : ℕ) → le32 s at < 2 ^ 32 = λ at. le-lt 4 s at b in
+    exact w h clip _ _ _ _ _ c (record { left = word 8; top = word 12; right = word 16; bottom = word 20 }) (word _) (word _) (word _) (word _)
 
 pub pixel-by-pixel : PixelByPixel
 unfolding work workOf
@@ -40,6 +54,7 @@ pixel-by-pixel w h p s e =
     let f : Paint = paintOn t k (p .brush) in
     record {
       inside = covered w h f t on s e;
+      target = target-exact w h (p .bytes) (p .clip);
       outside = not-covered w h f t on s;
       records = saved-before w f (t .columns .at) (t .columns .count) (t .rows .at) (t .rows .count) s (on .0 .ends);
       count = length-places t;

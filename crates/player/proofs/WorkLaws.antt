@@ -10,6 +10,7 @@ use Rattle.pixel.specs.Blend.{blend0, blend1, pixelOf, over0, over1}
 use Rattle.pixel.specs.Raster.{rasterPixel}
 use Rattle.pixel.proofs.RasterLaws.{raster-lt}
 use Rattle.region.specs.declared.Target.{Target}
+use Rattle.region.specs.Axis.{within}
 use Rattle.region.specs.Target.{row, block, placesIn}
 use Rattle.region.proofs.TargetLaws.{On, inside}
 use Rattle.journal.specs.All.{All}
@@ -19,7 +20,7 @@ use Rattle.journal.proofs.PointwiseLaws.{all-append}
 use Rattle.paint.specs.declared.Rule.{Rule}
 use Rattle.paint.specs.declared.Rule.the-variants.{Blend0, Blend1, Raster, Masked}
 use Rattle.paint.specs.Paints.{paintedBy}
-use Rattle.meaning.specs.Meaning.{Meaning, meaningOf, within, paintOn, targetIn, workOf}
+use Rattle.meaning.specs.Meaning.{Meaning, meaningOf, paintOn, targetIn, workOf}
 use Rattle.player.specs.Calls.{Play, work}
 
 -- ---- the places

@@ -1,23 +1,23 @@
 -- Condition 2 pixel by pixel, for the reader: what follows from the definition of a play drawn. Definitions, and the claim.
 use mathlib.Core.Path.{_≡_}
-use Prim.Native.Nat.{ℕ, _+_, _*_, _≤_, _<_}
+use Prim.Native.Nat.{ℕ, _*_, _<_}
 use mathlib.Core.List.{List, map}
 use lib.ListN.{length, getD}
 use Rattle.region.specs.declared.Target.{Target}
+use Rattle.words.specs.Bytes.{byteAt}
+use Rattle.region.specs.Axis.{within}
 use Rattle.region.specs.Target.{Place}
+use Rattle.region.specs.Exact.{Covers, Words, Exact}
 use Rattle.journal.specs.Drawing.{index}
 use Rattle.journal.specs.Records.{entry, saved}
 use Rattle.lent.specs.Playing.{counted, drawnBy}
 use Rattle.paint.specs.Paints.{paintedBy}
-use Rattle.meaning.specs.Meaning.{Meaning, meaningOf, within, targetIn}
+use Rattle.meaning.specs.Meaning.{Meaning, meaningOf, targetIn}
 use Rattle.player.specs.Calls.{Play, work}
 
--- column x and row y lie in the clipped target
-pub record Covers (t : Target) (x y : ℕ) : Type 0 where
-  pub left : t .columns .at ≤ x
-  pub right : x < t .columns .at + t .columns .count
-  pub top : t .rows .at ≤ y
-  pub bottom : y < t .rows .at + t .rows .count
+-- a record's bytes are bytes
+abbrev pub Bytes : List ℕ → Type 0
+Bytes s = (k : ℕ) → byteAt s k < 256
 
 -- the pixel at column x and row y of a surface of this width
 abbrev pub pixel : (width : ℕ) → List ℕ → (x y : ℕ) → ℕ
@@ -30,6 +30,8 @@ pub record Pixels (width height : ℕ) (p : Play) (s : List ℕ) (k : Meaning) (
   pub inside : (x y : ℕ) → Covers t x y
       → pixel width (drawnBy width (work width height p) s) x y
       ≡ paintedBy (k .rule (p .brush)) (k .source (within (t .columns) x) (within (t .rows) y)) (k .bit (within (t .columns) x) (within (t .rows) y)) (pixel width s x y)
+  -- which pixels those are: "every pixel of target and cut clip", where Bounds meet it
+  pub target : Bytes (p .bytes) → Words (p .clip) → Exact width height (p .clip) (k .bounds) (k .x) (k .y) (k .cx) (k .cy) t
   -- "changes no other"
   pub outside : (x y : ℕ) → x < width → (Covers t x y → ⊥) → pixel width (drawnBy width (work width height p) s) x y ≡ pixel width s x y
   -- each journal record holds the pixel of the surface before the play
