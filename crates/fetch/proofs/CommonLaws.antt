@@ -1,27 +1,16 @@
--- The common layouts: their masks can be read with, and where each channel is a byte, what the masks make of a stored number is that
--- number, with alpha 255 where it has none. Assumes nothing.
+-- Where each channel is a byte, what the masks make of a stored number is that number, with alpha 255 where it has none. Assumes nothing.
 use mathlib.Core.Path.{_≡_, refl, sym, ap, ap₂, _∙_}
-use mathlib.Core.Bool.{false}
 use Prim.Native.Nat.{ℕ, _+_, _*_, _/_, _%_, _^_, _<_}
 use native.Mathlib.Nat.{mod-eq-of-lt}
 use native.Mathlib.Omega.{arith}
 use lib.Count.{trailingZeros}
-use lib.Dec.{lit≤}
 use lib.Pow.{mod-pow-add}
 use Rattle.pixel.specs.Masks.{maskPlace, maskOf, channelAt}
 use Rattle.pixel.specs.Round.{roundDiv}
 use Rattle.pixel.specs.Widen.{widened}
 use Rattle.pixel.proofs.MaskLaws.{ones-of}
-use Rattle.sample.specs.Colour.{Sampled, channel8, alphaOf, masked}
-use Rattle.sample.proofs.AtLaws.{run, none, fixed}
-use Rattle.fetch.specs.Fetched.{fiveMasks, sixMasks, byteMasks}
-
-pub sampled-five : Sampled fiveMasks
-sampled-five = fixed 16 0 0 0 0 false
-
-pub sampled-six : Sampled sixMasks
-unfolding maskOf
-sampled-six = record { red = run 5 11 (lit≤ tt) (lit≤ tt); green = run 6 5 (lit≤ tt) (lit≤ tt); blue = run 5 0 (lit≤ tt) (lit≤ tt); alpha = none }
+use Rattle.sample.specs.Colour.{channel8, alphaOf, masked}
+use Rattle.fetch.specs.Fetched.{byteMasks}
 
 -- eight bits need no widening
 widened-8 : (v : ℕ) → widened 8 v ≡ v

@@ -18,12 +18,6 @@ InLine bits line columns = (k : ℕ) → k < length columns → (getD columns k 
 abbrev pub noMasks : Masks
 noMasks = record { red = 0; green = 0; blue = 0; alpha = 0 }
 
--- layouts that most sources have: 5-5-5, 5-6-5, and a byte for each channel
-abbrev pub fiveMasks : Masks
-fiveMasks = record { red = 0x7C00; green = 0x03E0; blue = 0x001F; alpha = 0 }
-
-abbrev pub sixMasks : Masks
-sixMasks = record { red = 0xF800; green = 0x07E0; blue = 0x001F; alpha = 0 }
-
+-- the layout that most sources have: a byte for each channel
 abbrev pub byteMasks : (alpha : ℕ) → Masks
 byteMasks alpha = record { red = 0xFF0000; green = 0xFF00; blue = 0xFF; alpha = alpha }

@@ -1,37 +1,11 @@
-// Loops for the layouts that most sources have: with the masks written out, shifts and widths are constants, and where every
-// channel is a byte, the stored bytes are the pixel's own.
+// Loops for the layouts that most sources have: every channel is a byte, so the stored bytes are the pixel's own.
 ghost use mathlib.Core.Path.{_≡_};
 ghost use mathlib.Core.List.{[]};
 ghost use Prim.Native.Nat.{_≤_};
 ghost use lib.ListN.{length};
 ghost use Rattle.words.specs.Filled.{Filled};
-ghost use Rattle.pixel.specs.Widen.{Widens};
-ghost use Rattle.fetch.specs.Fetched.{fetched, InLine, fiveMasks, sixMasks, byteMasks};
+ghost use Rattle.fetch.specs.Fetched.{fetched, InLine, byteMasks};
 use sample::Masks;
-
-// The masks of 5-5-5, BI_RGB's 16 bits.
-pub fn five() -> Masks
-    ensures { λ r. ⌜ r ≡ fiveMasks ⌝ }
-{
-    Masks {
-        red: 0x7C00,
-        green: 0x03E0,
-        blue: 0x001F,
-        alpha: 0,
-    }
-}
-
-// The masks of 5-6-5.
-pub fn six() -> Masks
-    ensures { λ r. ⌜ r ≡ sixMasks ⌝ }
-{
-    Masks {
-        red: 0xF800,
-        green: 0x07E0,
-        blue: 0x001F,
-        alpha: 0,
-    }
-}
 
 // The masks of 8-8-8, BI_RGB's 24 and 32 bits.
 pub fn bytes(alpha: u32) -> Masks
@@ -42,34 +16,6 @@ pub fn bytes(alpha: u32) -> Masks
         green: 0xFF00,
         blue: 0xFF,
         alpha,
-    }
-}
-
-// 16 bits, 5-5-5.
-pub fn five16(t: &[u8; 510], line: &[u8], columns: &[u32], out: &mut [u32])
-    requires { ⌜ (length (now columns) ≤ length (now out)) × InLine 16 (now line) (now columns) × Widens (now t) ⌝ }
-    ensures { λ _. ⌜ Filled (fetched 16 [] fiveMasks (now (line .entry)) (now (columns .entry))) (now (out .entry)) (length (now (columns .entry))) (now (out .exit)) ⌝ }
-{
-    let m = five();
-    let mut i = 0;
-    while i < columns.len() {
-        let column = columns[i] as usize;
-        out[i] = sample::colour::masked(t, m, words::load_u16(line, column * 2));
-        i += 1;
-    }
-}
-
-// 16 bits, 5-6-5.
-pub fn six16(t: &[u8; 510], line: &[u8], columns: &[u32], out: &mut [u32])
-    requires { ⌜ (length (now columns) ≤ length (now out)) × InLine 16 (now line) (now columns) × Widens (now t) ⌝ }
-    ensures { λ _. ⌜ Filled (fetched 16 [] sixMasks (now (line .entry)) (now (columns .entry))) (now (out .entry)) (length (now (columns .entry))) (now (out .exit)) ⌝ }
-{
-    let m = six();
-    let mut i = 0;
-    while i < columns.len() {
-        let column = columns[i] as usize;
-        out[i] = sample::colour::masked(t, m, words::load_u16(line, column * 2));
-        i += 1;
     }
 }
 

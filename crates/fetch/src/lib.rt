@@ -41,7 +41,7 @@ pub fn row(
         return;
     }
     if bits == 16 {
-        row16(t, m, line, columns, out);
+        masked16(t, m, line, columns, out);
         return;
     }
     if bits == 24 {
@@ -51,7 +51,7 @@ pub fn row(
     row32(t, m, line, columns, out);
 }
 
-// 1 bits.
+// 1 bit.
 fn one_bit(palette: &[u32; 256], line: &[u8], columns: &[u32], out: &mut [u32])
     requires { ⌜ (length (now columns) ≤ length (now out)) × InLine 1 (now line) (now columns) ⌝ }
     requires { ⌜ Colours (now palette) ⌝ }
@@ -91,23 +91,6 @@ fn eight_bits(palette: &[u32; 256], line: &[u8], columns: &[u32], out: &mut [u32
         out[i] = opaque(palette, words::wide(line[column]));
         i += 1;
     }
-}
-
-// 16 bits: the masks choose the loop.
-fn row16(t: &[u8; 510], m: Masks, line: &[u8], columns: &[u32], out: &mut [u32])
-    requires { ⌜ (length (now columns) ≤ length (now out)) × InLine 16 (now line) (now columns) ⌝ }
-    requires { ⌜ Widens (now t) × Sampled m ⌝ }
-    ensures { λ _. ⌜ Filled (fetched 16 [] m (now (line .entry)) (now (columns .entry))) (now (out .entry)) (length (now (columns .entry))) (now (out .exit)) ⌝ }
-{
-    if same(m, common::five()) {
-        common::five16(t, line, columns, out);
-        return;
-    }
-    if same(m, common::six()) {
-        common::six16(t, line, columns, out);
-        return;
-    }
-    masked16(t, m, line, columns, out);
 }
 
 // 16 bits, by any masks.

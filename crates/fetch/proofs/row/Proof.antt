@@ -39,15 +39,15 @@ returns-3 : tie.Need-returns-3
 unfolding fetched shown stored
 returns-3 c = let a = c .before .before .before .before .before .before .before .before .before .before .args in as-depth 8 (a .bits) (a .palette .now) (a .m) (a .line .now) (a .columns .now) (c .before .before .before .before .if3 .taken) _ _ _ (c .before .before .eight-bits .ensures)
 
-row16-requires : tie.Need-row16-requires
-row16-requires c κs = ((c .before .before .before .before .before .before .before .before .pre .0 .1, in-line 16 _ (c .before .before .before .before .before .before .before .before .args .palette .now) (c .before .before .before .before .before .before .before .before .args .m) (c .before .before .before .before .before .before .before .before .args .line .now) (c .before .before .before .before .before .before .before .before .args .columns .now) (c .before .if4 .taken) (c .before .before .before .before .before .before .before .before .pre .0 .2)), (c .before .before .before .before .before .before .before .before .pre .1 .0, c .before .before .before .before .before .before .before .before .pre .1 .2 (omega arith)))
+masked16-requires : tie.Need-masked16-requires
+masked16-requires c κs = ((c .before .before .before .before .before .before .before .before .pre .0 .1, in-line 16 _ (c .before .before .before .before .before .before .before .before .args .palette .now) (c .before .before .before .before .before .before .before .before .args .m) (c .before .before .before .before .before .before .before .before .args .line .now) (c .before .before .before .before .before .before .before .before .args .columns .now) (c .before .if4 .taken) (c .before .before .before .before .before .before .before .before .pre .0 .2)), (c .before .before .before .before .before .before .before .before .pre .1 .0, c .before .before .before .before .before .before .before .before .pre .1 .2 (omega arith)))
 
 same-length-4 : tie.Need-same-length-4
 same-length-4 c = search needs
 
 returns-4 : tie.Need-returns-4
 unfolding fetched shown stored
-returns-4 c = let a = c .before .before .before .before .before .before .before .before .before .before .before .args in as-depth 16 (a .bits) (a .palette .now) (a .m) (a .line .now) (a .columns .now) (c .before .before .before .before .if4 .taken) _ _ _ (c .before .before .row16 .ensures)
+returns-4 c = let a = c .before .before .before .before .before .before .before .before .before .before .before .args in as-depth 16 (a .bits) (a .palette .now) (a .m) (a .line .now) (a .columns .now) (c .before .before .before .before .if4 .taken) _ _ _ (c .before .before .masked16 .ensures)
 
 row24-requires : tie.Need-row24-requires
 row24-requires c κs = ((c .before .before .before .before .before .before .before .before .before .pre .0 .1, in-line 24 _ (c .before .before .before .before .before .before .before .before .before .args .palette .now) (c .before .before .before .before .before .before .before .before .before .args .m) (c .before .before .before .before .before .before .before .before .before .args .line .now) (c .before .before .before .before .before .before .before .before .before .args .columns .now) (c .before .if5 .taken) (c .before .before .before .before .before .before .before .before .before .pre .0 .2)), (c .before .before .before .before .before .before .before .before .before .pre .1 .0, c .before .before .before .before .before .before .before .before .before .pre .1 .2 (omega arith)))
@@ -88,7 +88,7 @@ row-spec =
     eight-bits-requires
     same-length-3
     returns-3
-    row16-requires
+    masked16-requires
     same-length-4
     returns-4
     row24-requires
