@@ -1,24 +1,19 @@
--- A part that was lent and came back, a flag as a number, a call's arguments, a reading's line. Assumes nothing.
+-- A part that was lent and came back, a call's arguments, a reading's line. Assumes nothing.
 use mathlib.Core.Path.{_≡_, refl, sym, ap, _∙_}
-use mathlib.Core.Bool.{Bool, true, false}
+use mathlib.Core.Bool.{Bool}
 use mathlib.Core.List.{List, _++_}
 use Prim.Native.Nat.{ℕ, _≤_}
 use lib.ListN.{length, take, drop}
 use lib.Seq.{length-take-le, length-front, take-at, drop-at}
-use mir.Val.{boolByte}
-use Rattle.words.specs.Choice.{pick}
 use Rattle.reading.specs.declared.Reading.{Reading}
 use Rattle.reading.specs.Reading.{readingOf, headerBytes, viewBytes, readPalette}
 use Rattle.script.specs.Sum.{sumOf, bytesOf}
 use Rattle.words.specs.Bytes.{le32}
 use Rattle.region.specs.declared.Rectangle.{Rectangle}
+use Rattle.region.specs.Written.{rectangleAt}
 use Rattle.lent.specs.Lent.{Lent}
 use Rattle.player.specs.Calls.{playWith, play as playOf}
-use Rattle.answers.specs.Asked.{Rest, clipIn, playAsked, lineOf, readLine}
-
-pub flag : (b : Bool) → boolByte b ≡ pick b 1 0
-flag true = refl
-flag false = refl
+use Rattle.answers.specs.Asked.{Rest, playAsked, lineOf, readLine}
 
 -- the first n elements d of a list were lent, and e came back in their place
 module _ (n : ℕ) (l e : List ℕ) (fits : n ≤ length l) (kept : length e ≡ length (take n l)) where
@@ -36,6 +31,6 @@ unfolding readLine
 line-read s mask r h v p hs vs ps n er eh ehs ev evs ep eps en = cc
 
 -- a play, with its clip and its brush by what they were read from
-pub asked : (width height : ℕ) (m : Lent) (front s : List ℕ) (clip : Rectangle) (brush : ℕ) → clip ≡ clipIn front → brush ≡ le32 front 20
+pub asked : (width height : ℕ) (m : Lent) (front s : List ℕ) (clip : Rectangle) (brush : ℕ) → clip ≡ rectangleAt front 4 → brush ≡ le32 front 20
     → playOf width height (playWith s clip brush) m ≡ playOf width height (playAsked s front) m
 asked width height m front s clip brush ec eb = cc

@@ -6,7 +6,7 @@ use Prim.Native.Nat.{ℕ}
 use lib.ListN.{length, drop}
 use Rattle.words.specs.Bytes.{le32}
 use Rattle.words.specs.Choice.{pick}
-use Rattle.region.specs.declared.Rectangle.{Rectangle}
+use Rattle.region.specs.Written.{rectangleAt}
 use Rattle.player.specs.Calls.{Play, playWith}
 use Rattle.reading.specs.declared.Reading.{Reading}
 use Rattle.reading.specs.Reading.{readingOf, headerBytes, viewBytes, readPalette}
@@ -18,11 +18,8 @@ pub record Rest (n : ℕ) (before after : List ℕ) : Type 0 where
   pub same : drop n after ≡ drop n before
 
 -- "left, top, right, bottom, brush, tag, data", behind the opcode; "without item 11 it is not looked at" (the tag)
-abbrev pub clipIn : (front : List ℕ) → Rectangle
-clipIn front = record { left = le32 front 4; top = le32 front 8; right = le32 front 12; bottom = le32 front 16 }
-
 abbrev pub playAsked : (s front : List ℕ) → Play
-playAsked s front = playWith s (clipIn front) (le32 front 20)
+playAsked s front = playWith s (rectangleAt front 4) (le32 front 20)
 
 -- "answer headerlength headersum viewlength viewsum width rows bits compression topdown red green blue alpha palettesum"
 unfoldable pub lineOf : Reading → (header view palette : ℕ) → List ℕ

@@ -6,10 +6,9 @@ ghost use Rattle.lent.specs.Lent.{lent as lentOf};
 ghost use Rattle.lent.specs.Undoing.{undoOf};
 ghost use Rattle.player.specs.Calls.{play as playOf};
 ghost use Rattle.player.specs.Left.{left};
-ghost use Rattle.answers.specs.Asked.{Rest, clipIn, playAsked, lineOf, readLine};
+ghost use Rattle.answers.specs.Asked.{Rest, playAsked, lineOf, readLine};
 use player::Answer;
 use reading::Reading;
-use region::Rectangle;
 
 // What a call leaves for the next one: what the calls are lent (sides, pixels, journal bytes, and the journal's records in use),
 // the bytes that wait to be printed, whether another call may follow, and whether the script is free of faults so far.
@@ -24,24 +23,13 @@ pub struct State {
     pub good: bool,
 }
 
-fn clip_in(front: &[u8]) -> Rectangle
-    ensures { λ r. ⌜ r ≡ clipIn (now (front .entry)) ⌝ }
-{
-    Rectangle {
-        left: words::read_u32(front, 4),
-        top: words::read_u32(front, 8),
-        right: words::read_u32(front, 12),
-        bottom: words::read_u32(front, 16),
-    }
-}
-
 // A play of record s. Behind the opcode stand the clip's four numbers, the brush and a tag, which is not looked at.
 pub fn play(surface: &mut [u32], journal: &mut [u8], m: State, s: &[u8], front: &[u8]) -> Answer
     requires { ⌜ (m .pixels ≤ length (now surface)) × (m .bytes ≤ length (now journal)) ⌝ }
     ensures { λ r. ⌜ left r (take (m .pixels) (now (surface .exit))) (take (m .bytes) (now (journal .exit))) ≡ playOf (m .width) (m .height) (playAsked (now (s .entry)) (now (front .entry))) (lentOf (take (m .pixels) (now (surface .entry))) (take (m .bytes) (now (journal .entry))) (m .used)) ⌝ }
     ensures { λ r. ⌜ (Rest (m .pixels) (now (surface .entry)) (now (surface .exit))) × (Rest (m .bytes) (now (journal .entry)) (now (journal .exit))) ⌝ }
 {
-    let clip = clip_in(front);
+    let clip = region::read(front, 4);
     let brush = words::read_u32(front, 20);
     let pixels = m.pixels;
     let bytes = m.bytes;
@@ -98,7 +86,7 @@ fn numbers(r: Reading, header: u64, view: u64, palette: u64) -> [u64; 15]
         r.rows as u64,
         r.bits as u64,
         r.compression as u64,
-        r.top_down as u64,
+        words::flag(r.top_down),
         r.red as u64,
         r.green as u64,
         r.blue as u64,

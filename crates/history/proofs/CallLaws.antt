@@ -3,7 +3,6 @@ use mathlib.Core.Path.{_≡_, refl, sym, ap, _∙_}
 use mathlib.Core.Bool.{Bool, true, false, _&&_}
 use mathlib.Core.List.{List, [], _∷_}
 use Prim.Native.Nat.{ℕ, _+_, _-_, _≤_, _<_}
-use native.Mathlib.Nat.{add-sub-cancel-left}
 use native.Mathlib.Omega.{arith}
 use native.Mathlib.Numerals.{add-one}
 use lib.ListN.{length, take, drop, set, length-set}
@@ -13,6 +12,8 @@ use borrow.Author.Tests.{eq-eqb, ne-eqb, le-leb, lt-leb, leb-true}
 use Rattle.words.specs.Bytes.{le32}
 use Rattle.words.specs.Choice.{pick}
 use Rattle.words.proofs.ChoiceLaws.{picked-true, picked-false, and-true, and-false, and-both}
+use Rattle.region.specs.declared.Rectangle.{Rectangle}
+use Rattle.region.specs.Written.{rectangleAt}
 use Rattle.lent.specs.Lent.{Lent, lent, Outcome}
 use Rattle.lent.specs.Undoing.{undoOf}
 use Rattle.player.specs.declared.Answer.{Answer}
@@ -98,13 +99,9 @@ module _ (l : List ℕ) (at : ℕ) where
 
   -- ---- the play that `play_at` reads
 
-  pub play-read : (o : Outcome) (w h : ℕ) (m : Lent) (a b c d e n : ℕ)
-      → o ≡ play w h (playWith (take (at + 32 + n - (at + 32)) (drop (at + 32) l)) (record { left = a; top = b; right = c; bottom = d }) e) m
-      → a ≡ le32 l (at + 4) → b ≡ le32 l (at + 8) → c ≡ le32 l (at + 12) → d ≡ le32 l (at + 16) → e ≡ le32 l (at + 20) → n ≡ le32 l (at + 28)
-      → o ≡ play w h (playAt l at) m
-  play-read o w h m a b c d e n q ea eb ec ed ee en =
-      let k : at + 32 + n - (at + 32) ≡ le32 l (at + 28) = add-sub-cancel-left (at + 32) n ∙ en in
-      q ∙ (λ i. play w h (playWith (take (k i) (drop (at + 32) l)) (record { left = ea i; top = eb i; right = ec i; bottom = ed i }) (ee i)) m)
+  pub play-read : (o : Outcome) (w h : ℕ) (m : Lent) (clip : Rectangle) (brush n : ℕ) (s : List ℕ) → o ≡ play w h (playWith s clip brush) m
+      → clip ≡ rectangleAt l (at + 4) → brush ≡ le32 l (at + 20) → n ≡ le32 l (at + 28) → s ≡ take n (drop (at + 32) l) → o ≡ play w h (playAt l at) m
+  play-read o w h m clip brush n s q ec eb en es = cc
 
   -- ---- the ways through `call`
 

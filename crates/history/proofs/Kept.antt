@@ -13,7 +13,7 @@ use Rattle.lent.specs.Playing.{appended}
 use Rattle.player.specs.Calls.{Play, work}
 use Rattle.player.proofs.WorkLaws.{paints-pixels}
 use Rattle.history.specs.Pile.{answered, Pile, pile, count, room, drawnAll, surfaceOf, roomOf, Turn}
-use Rattle.history.specs.Lists.{Pixels}
+use Rattle.history.specs.Lists.{Words32}
 
 -- ---- the surface and the journal of a pile's plays
 
@@ -22,7 +22,7 @@ unfolding drawnAll
 length-drawnAll w h [] s = refl
 length-drawnAll w h (p ∷ ps) s = length-drawn w (work w h p .paint) (work w h p .places) (drawnAll w h ps s) ∙ length-drawnAll w h ps s
 
-pub pixels-drawnAll : (w h : ℕ) (ps : List Play) (s : List ℕ) → Pixels s → Pixels (drawnAll w h ps s)
+pub pixels-drawnAll : (w h : ℕ) (ps : List Play) (s : List ℕ) → Words32 s → Words32 (drawnAll w h ps s)
 unfolding drawnAll
 pixels-drawnAll w h [] s b = b
 pixels-drawnAll w h (p ∷ ps) s b =
@@ -52,11 +52,11 @@ pub record Frame (w h : ℕ) (start : List ℕ) (size : ℕ) : Type 0 where
   pub wide : w ≤ 4096
   pub high : h ≤ 4096
   pub most : size / stride ≤ 20000000
-  pub pixels : Pixels start
+  pub pixels : Words32 start
   pub passes : (used : ℕ) → used ≤ size / stride → limits w h (length start) size used ≡ 0
 
 -- the count in use may change, up to the journal's records
-pub framed : (w h : ℕ) (s j : List ℕ) → Pixels s → lentStatus w h (lent s j 0) ≡ 0 → Frame w h s (length j)
+pub framed : (w h : ℕ) (s j : List ℕ) → Words32 s → lentStatus w h (lent s j 0) ≡ 0 → Frame w h s (length j)
 framed w h s j b e =
     let p = passed w h (length s) (length j) 0 e in
     record {

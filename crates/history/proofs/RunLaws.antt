@@ -13,7 +13,7 @@ use Rattle.words.specs.Bytes.{le32}
 use Rattle.words.specs.Choice.{given, orElse}
 use Rattle.lent.specs.Lent.{Lent, lent, limits, records}
 use Rattle.history.specs.Pile.{Answered, pile}
-use Rattle.history.specs.Lists.{answers, memory, Agree, Pixels}
+use Rattle.history.specs.Lists.{answers, memory, Agree, Words32}
 use Rattle.history.specs.Run.{wellFormed, callsFrom, callsIn, callsOf, numbersOf, runStatus, settleRun, runOf}
 use Rattle.history.specs.Reported.{reported, refusal}
 use Rattle.history.specs.declared.Report.{Report}
@@ -66,7 +66,7 @@ module _ (w h : ℕ) (s j l a : List ℕ) where
         run-full r t e =
             refuses r 30 (λ z. omega arith) (status-is false g ∙ ap (λ (x : Bool). given 30 x 0) (lt-ltb (length a) (n * 2) t)) e
 
-        pub run-done : n * 2 ≤ length a → Pixels s → (s1 j1 a1 : List ℕ) (u : ℕ) → lent s1 j1 u ≡ memory w h (callsFrom l 4 n) (lent s j 0)
+        pub run-done : n * 2 ≤ length a → Words32 s → (s1 j1 a1 : List ℕ) (u : ℕ) → lent s1 j1 u ≡ memory w h (callsFrom l 4 n) (lent s j 0)
             → a1 ≡ sets a 0 (numbersOf (answers w h (callsFrom l 4 n) (lent s j 0)))
             → reported (record { status = 0; calls = n; used = u }) s1 j1 a1 ≡ runOf w h s j l a
         run-done t p s1 j1 a1 u em ea =

@@ -30,12 +30,12 @@ pub record Agree (width height : ℕ) (ks : List Call) (m : Lent) (q : Pile) : T
   pub used : memory width height ks m .used ≡ roomOf width height (pileAfter width height ks q)
 
 -- "one 32-bit number a pixel"
-abbrev pub Pixels : List ℕ → Type 0
-Pixels s = (k : ℕ) → getD s k 0 < 2 ^ 32
+abbrev pub Words32 : List ℕ → Type 0
+Words32 s = (k : ℕ) → getD s k 0 < 2 ^ 32
 
 -- "The list starts from any sheet and journal that refusals 1 and 2 let pass, any bytes in the journal, count in use 0." After every
 -- list of calls, refused ones included:
 abbrev pub Condition3 : Type 0
 Condition3 =
-    (width height : ℕ) (surface journal : List ℕ) (ks : List Call) → Pixels surface → lentStatus width height (lent surface journal 0) ≡ 0
+    (width height : ℕ) (surface journal : List ℕ) (ks : List Call) → Words32 surface → lentStatus width height (lent surface journal 0) ≡ 0
     → Agree width height ks (lent surface journal 0) (pile surface (records (lent surface journal 0)) [])

@@ -10,7 +10,7 @@ use lib.Seq.{sets}
 use lib.Dec.{eqb, leb, ltb}
 use Rattle.words.specs.Bytes.{le32}
 use Rattle.words.specs.Choice.{pick, given, orElse}
-use Rattle.region.specs.declared.Rectangle.{Rectangle}
+use Rattle.region.specs.Written.{rectangleAt}
 use Rattle.lent.specs.Lent.{lent, lentStatus, records}
 use Rattle.player.specs.Calls.{Play, playWith}
 use Rattle.history.specs.Pile.{Call, playing, undoing, Answered, pile, surfaceOf, roomOf, pileAnswers, pileAfter}
@@ -26,11 +26,8 @@ callLength l at =
     pick (eqb (le32 l at) 1) (pick (leb (at + (32 + padded (le32 l (at + 28)))) (length l)) (32 + padded (le32 l (at + 28))) 0)
     (pick (eqb (le32 l at) 2 && leb (at + 4) (length l)) 4 0)
 
-abbrev pub clipAt : (list : List ℕ) (at : ℕ) → Rectangle
-clipAt l at = record { left = le32 l (at + 4); top = le32 l (at + 8); right = le32 l (at + 12); bottom = le32 l (at + 16) }
-
 abbrev pub playAt : (list : List ℕ) (at : ℕ) → Play
-playAt l at = playWith (take (le32 l (at + 28)) (drop (at + 32) l)) (clipAt l at) (le32 l (at + 20))
+playAt l at = playWith (take (le32 l (at + 28)) (drop (at + 32) l)) (rectangleAt l (at + 4)) (le32 l (at + 20))
 
 -- the call at a place
 unfoldable pub callAt : (list : List ℕ) (at : ℕ) → Call

@@ -13,7 +13,6 @@ ghost use Rattle.history.specs.Run.{playAt, padded, callLength, callAt, 
 ghost use Rattle.history.specs.Reported.{reported, refusal};
 ghost use Rattle.history.specs.Stepped.{Stepped};
 use player::Answer;
-use region::Rectangle;
 
 // What a run answered: its status, how many calls were made, and the journal's records in use afterwards.
 pub struct Report {
@@ -98,25 +97,11 @@ fn play_at(
     requires { ⌜ at + (32 + padded (le32 (now list) (at + 28))) ≤ length (now list) ⌝ }
     ensures { λ r. ⌜ left r (now (surface .exit)) (now (journal .exit)) ≡ play width height (playAt (now (list .entry)) at) (lent (now (surface .entry)) (now (journal .entry)) used) ⌝ }
 {
-    let clip = Rectangle {
-        left: words::read_u32(list, at + 4),
-        top: words::read_u32(list, at + 8),
-        right: words::read_u32(list, at + 12),
-        bottom: words::read_u32(list, at + 16),
-    };
+    let clip = region::read(list, at + 4);
     let brush = words::read_u32(list, at + 20);
-    let from = at + 32;
-    let to = from + words::read_u32(list, at + 28) as usize;
-    player::play(
-        surface,
-        width,
-        height,
-        journal,
-        used,
-        &list[from..to],
-        clip,
-        brush,
-    )
+    let count = words::read_u32(list, at + 28) as usize;
+    let s = words::part(list, at + 32, count);
+    player::play(surface, width, height, journal, used, s, clip, brush)
 }
 
 // Makes the call at a place of the list.

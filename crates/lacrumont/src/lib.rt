@@ -2,7 +2,6 @@
 ghost use mathlib.Core.Path.{_≡_};
 ghost use Rattle.lent.specs.Lent.{lent, outcome};
 ghost use Rattle.lent.specs.Undoing.{undoOf};
-ghost use Rattle.words.specs.Choice.{pick};
 ghost use Rattle.reading.specs.Reading.{readingOf, readPalette};
 ghost use Rattle.lacrumont.specs.Numbers.{asksMask, numbersIn};
 ghost use Rattle.player.specs.Calls.{playWith, play as playing};
@@ -76,19 +75,13 @@ pub extern "C" fn lacrumont_read(s: &[u8], mask: u32, out: &mut [u64; 13]) -> u3
         a.rows as u64,
         a.bits as u64,
         a.compression as u64,
-        flag(a.top_down),
+        words::flag(a.top_down),
         a.red as u64,
         a.green as u64,
         a.blue as u64,
         a.alpha as u64,
     ];
     a.status
-}
-
-fn flag(x: bool) -> u64
-    ensures { λ r. ⌜ r ≡ pick x 1 0 ⌝ }
-{
-    if x { 1 } else { 0 }
 }
 
 // The palette of the record's source (mask 0) or mask; black where there is none.

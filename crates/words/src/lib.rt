@@ -7,13 +7,20 @@ ghost use Prim.Native.Nat.{_+_, _≤_, _<_};
 ghost use lib.ListN.{length, take, drop};
 ghost use lib.Seq.{sets};
 ghost use Rattle.words.specs.Bytes.{byteAt, le16, le24, le32, bytes32, signed32, magnitude32};
-ghost use Rattle.words.specs.Choice.{lowest as lowestOf};
+ghost use Rattle.words.specs.Choice.{pick, lowest as lowestOf};
 
 // A byte as a number to compute with.
 pub fn wide(x: u8) -> u32
     ensures { λ r. ⌜ (r ≡ x) × (r < 256) ⌝ }
 {
     x as u32
+}
+
+// A test's outcome as a number.
+pub fn flag(x: bool) -> u64
+    ensures { λ r. ⌜ r ≡ pick x 1 0 ⌝ }
+{
+    if x { 1 } else { 0 }
 }
 
 // Bytes of s, by where they stand and how many they are: s's own.

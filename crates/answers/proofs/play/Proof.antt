@@ -9,8 +9,8 @@ use borrow.Author.Needs.{needs}
 use Rattle.answers.proofs.play.Statement.{statement}
 use Rattle.answers.proofs.play.Tie as tie
 
-clip-in-requires : tie.Need-clip-in-requires
-clip-in-requires c κs = search needs
+read-requires : tie.Need-read-requires
+read-requires c κs = search needs
 
 read-u32-requires : tie.Need-read-u32-requires
 read-u32-requires c κs = search needs
@@ -48,7 +48,7 @@ returns c =
     let f : List ℕ = played .last .1 .1 .1 .0 in (
       ap (λ (x : List ℕ). left (played .result) x (take m (f ++ drop m j))) (front n l e (start .pre .0) (played .kept .0))
           ∙ ap (left (played .result) e) (front m j f (start .pre .1) (played .kept .1 .1 .1 .0)) ∙ played .ensures
-          ∙ asked _ _ _ (start .args .front .now) _ _ _ (c .before .before .before .before .before .before .before .before .clip-in .ensures) (c .before .before .before .before .before .before .before .read-u32 .ensures),
+          ∙ asked _ _ _ (start .args .front .now) _ _ _ (c .before .before .before .before .before .before .before .before .read .ensures) (c .before .before .before .before .before .before .before .read-u32 .ensures),
       (rest n l e (start .pre .0) (played .kept .0), rest m j f (start .pre .1) (played .kept .1 .1 .1 .0)),
     )
 
@@ -56,7 +56,7 @@ pub play-spec : {M : Type 1} → statement M
 play-spec =
     tie.close
     (tie.spec
-    clip-in-requires
+    read-requires
     read-u32-requires
     slice-relend-prefix-play
     slice-aggregate-play

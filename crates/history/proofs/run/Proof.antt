@@ -1,6 +1,6 @@
 use denote.Ref.{now}
 use native.Mathlib.Omega.{arith}
-use Rattle.history.specs.Lists.{Pixels}
+use Rattle.history.specs.Lists.{Words32}
 use Rattle.history.proofs.RunLaws.{run-limits, run-malformed, run-formed, run-full, run-done}
 use borrow.Author.Needs.{needs}
 use Rattle.history.proofs.run.Statement.{statement}
@@ -54,7 +54,7 @@ same-length-3 c = search needs
 returns-4 : tie.Need-returns-4
 returns-4 c =
     let s = c .before .before .before .before .before .before .before .before .before .before .before .before .before .before .before .before .before .before .before in
-    let p : Pixels (now (s .before .args .surface)) = λ k. omega (arith, s .slice-known .given k) in
+    let p : Words32 (now (s .before .args .surface)) = λ k. omega (arith, s .slice-known .given k) in
     search (run-done, p)
 
 pub run-spec : {M : Type 1} → statement M
