@@ -3,7 +3,7 @@ ghost use mathlib.Core.Path.{_≡_};
 ghost use mathlib.Core.Bool.{false};
 ghost use Prim.Native.Nat.{_^_, _≤_, min};
 ghost use lib.ListN.{length};
-ghost use Rattle.dib.specs.Header.{headerOf, tableStart, entries};
+ghost use Rattle.dib.specs.Header.{headerOf, topDown, tableStart, entries};
 ghost use Rattle.dib.specs.Judged.{badFields, badHeader, badMasks, bitsNeeded, dibStatus};
 
 mod field;
@@ -129,6 +129,13 @@ fn bad_masks(h: Header) -> bool
         return limits::bad_overlaps(h.red, h.green, h.blue, h.alpha);
     }
     false
+}
+
+// Is the first stored row the top one?
+pub fn is_top_down(h: Header) -> bool
+    ensures { λ r. ⌜ r ≡ topDown h ⌝ }
+{
+    words::is_negative(h.height)
 }
 
 // The bytes that the rows take.

@@ -30,9 +30,12 @@ unfoldable pub saved : (width : ℕ) → Paint → List Place → List ℕ → L
 saved width paint [] s = []
 saved width paint (p ∷ ps) s = entry (p .x) (p .y) (getD s (index width (p .x) (p .y)) 0) ∷ saved width paint ps (dot width paint (p .x) (p .y) s)
 
--- "Closing record: 0xFFFFFFFF, number of pixel records, record type."
+-- "Closing record: 0xFFFFFFFF, number of pixel records, record type." No pixel record begins so: no column is as large.
+abbrev pub mark : ℕ
+mark = 0xFFFFFFFF
+
 abbrev pub closing : (count kind : ℕ) → Entry
-closing count kind = entry 0xFFFFFFFF count kind
+closing count kind = entry mark count kind
 
 -- record i of a journal's bytes
 abbrev pub entryAt : (journal : List ℕ) (i : ℕ) → Entry

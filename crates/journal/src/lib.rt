@@ -10,6 +10,9 @@ ghost use Rattle.journal.specs.Restoring.{restored, anyOff};
 // The bytes of a record.
 pub const STRIDE: usize = 12;
 
+// The first number of a closing record.
+pub const MARK: u32 = 0xFFFF_FFFF;
+
 // Writes record i: three numbers.
 pub fn put(journal: &mut [u8], i: usize, first: u32, second: u32, third: u32)
     requires { ⌜ (i + 1) * stride ≤ length (now journal) ⌝ }

@@ -1,14 +1,7 @@
 // Status 12.
 ghost use mathlib.Core.Path.{_≡_};
 ghost use mathlib.Core.Bool.{not, _&&_};
-ghost use Rattle.words.specs.Bytes.{negative32};
 ghost use Rattle.judge.specs.Geometry.{badSide, far as farOf, sticksOut, badTarget, badSigns, badSource, badCorner};
-
-fn negative(x: u32) -> bool
-    ensures { λ r. ⌜ r ≡ negative32 x ⌝ }
-{
-    2147483648 <= x
-}
 
 fn bad_side(most: u32, x: u32) -> bool
     ensures { λ r. ⌜ r ≡ badSide most x ⌝ }
@@ -29,11 +22,11 @@ fn far(x: u32) -> bool
 fn sticks_out(x: u32, cx: u32, n: u32) -> bool
     ensures { λ r. ⌜ r ≡ sticksOut x cx n ⌝ }
 {
-    if negative(x) {
+    if words::is_negative(x) {
         return true;
     }
     let m = words::magnitude(cx);
-    if negative(cx) {
+    if words::is_negative(cx) {
         if x < m {
             return true;
         }
@@ -63,16 +56,16 @@ pub fn bad_signs(kind: u32, cx: u32, cy: u32, sx: u32, sy: u32) -> bool
     if kind == 0x51 {
         return false;
     }
-    if negative(cx) {
+    if words::is_negative(cx) {
         return true;
     }
-    if negative(cy) {
+    if words::is_negative(cy) {
         return true;
     }
-    if negative(sx) {
+    if words::is_negative(sx) {
         return true;
     }
-    negative(sy)
+    words::is_negative(sy)
 }
 
 fn bad_source(x: u32, y: u32, cx: u32, cy: u32, width: u32, rows: u32) -> bool

@@ -4,7 +4,7 @@ use mathlib.Core.Bool.{Bool, not, _||_}
 use mathlib.Core.List.{List}
 use lib.Dec.{eqb, ltb}
 use Rattle.words.specs.Choice.{given, orElse}
-use Rattle.journal.specs.Records.{Entry, entryAt, entriesAt}
+use Rattle.journal.specs.Records.{mark, Entry, entryAt, entriesAt}
 use Rattle.journal.specs.Restoring.{restored, anyOff}
 use Rattle.lent.specs.Lent.{Lent, lent, Outcome, outcome, settle, lentStatus}
 
@@ -22,7 +22,7 @@ top m = entriesAt (m .journal) (m .used - 1 - named m) (named m)
 
 -- 16: "last record not a closing one, it names more than stand before it, or one of those lies off the sheet"
 unfoldable pub badTop : (width height : ℕ) → Lent → Bool
-badTop width height m = not (eqb (last m .first) 0xFFFFFFFF) || ltb (m .used - 1) (named m) || anyOff width height (top m)
+badTop width height m = not (eqb (last m .first) mark) || ltb (m .used - 1) (named m) || anyOff width height (top m)
 
 -- "restores the pixels from last to first, lowers the count past the closing record, leaves the journal's bytes"
 unfoldable pub undone : (width : ℕ) → Lent → Lent

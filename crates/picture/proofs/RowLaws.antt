@@ -1,5 +1,6 @@
 -- A row of a picture lies in its bits part. Assumes nothing.
-use mathlib.Core.Path.{_≡_, ap, _∙_}
+use mathlib.Core.Path.{_≡_, ap}
+use mathlib.Core.Bool.{Bool}
 use mathlib.Core.List.{List}
 use Prim.Native.Nat.{ℕ, _+_, _*_, _≤_, _<_}
 use native.Mathlib.Omega.{arith}
@@ -22,6 +23,6 @@ module _ (s : List ℕ) (p : Picture) (h : Header) (l : List ℕ) (long m k : �
   pub row-inside : k < m → (k + 1) * long ≤ length l
   row-inside q = row-in h l long m k a g q (omega (arith, ap length b, length-bits s p i))
 
-  pub row-is : (row : ℕ) (r : List ℕ) → k ≡ storedRow (topDown h) m row → r ≡ rowBytes l long k
+  pub row-is : (top : Bool) (row : ℕ) (r : List ℕ) → top ≡ topDown h → k ≡ storedRow top m row → r ≡ rowBytes l long k
       → r ≡ rowBytes (bitsPart s p) (rowLength (h .width) (h .bits)) (storedRow (topDown h) (rows h) row)
-  row-is row r e q = q ∙ (λ t. rowBytes (b t) (a t) ((e ∙ ap (λ (x : ℕ). storedRow (topDown h) x row) g) t))
+  row-is top row r d e q = cc

@@ -71,6 +71,6 @@ pub fn row(s: &[u8], p: Picture, h: Header, row: u32) -> &[u8]
 {
     let bytes = bits_part(s, p);
     let long = pixel::place::row_length(h.width, h.bits) as usize;
-    let k = sample::stored::row_at(2147483648 <= h.height, words::magnitude(h.height), row);
+    let k = sample::stored::row_at(dib::is_top_down(h), words::magnitude(h.height), row);
     sample::stored::row_bytes(bytes, long, k as usize)
 }

@@ -71,7 +71,7 @@ fn accepted(
         brush,
     );
     let closing = (used + pixels) as usize;
-    journal::put(journal, closing, 0xFFFF_FFFF, pixels as u32, n.kind);
+    journal::put(journal, closing, journal::MARK, pixels as u32, n.kind);
     Answer {
         status: 0,
         pixels: pixels as u32,
@@ -115,7 +115,7 @@ pub fn undo(surface: &mut [u32], width: u32, height: u32, journal: &[u8], used: 
         return refused(15, used);
     }
     let last = used - 1;
-    if journal::first(journal, last as usize) != 0xFFFF_FFFF {
+    if journal::first(journal, last as usize) != journal::MARK {
         return refused(16, used);
     }
     let named = journal::second(journal, last as usize);

@@ -57,6 +57,7 @@ fn full(p: Picture, h: Header) -> Reading
 {
     let view_len = dib::bits_needed(h) as usize;
     let rows = words::magnitude(h.height);
+    let top_down = dib::is_top_down(h);
     Reading {
         status: 0,
         header_at: p.bmi as usize,
@@ -67,7 +68,7 @@ fn full(p: Picture, h: Header) -> Reading
         rows,
         bits: h.bits,
         compression: h.compression,
-        top_down: 2147483648 <= h.height,
+        top_down,
         red: h.red,
         green: h.green,
         blue: h.blue,

@@ -36,12 +36,12 @@ module _ (h : Header) (bytes : List ℕ) (long m k : ℕ) (e : long ≡ rowLengt
         let n : length line ≡ long = ap length g ∙ simp (length-take, length-drop) (omega (arith, row-in)) in
         omega (arith, mul-le-mul-right (h .bits) i)
 
-  pub pixel-is : (palette line : List ℕ) (format1 : Bool) (column row n p : ℕ) (masks : Masks) → k ≡ storedRow (topDown h) m row
+  pub pixel-is : (palette line : List ℕ) (format1 top : Bool) (column row n p : ℕ) (masks : Masks) → top ≡ topDown h → k ≡ storedRow top m row
       → line ≡ rowBytes bytes long k → n ≡ stored (h .bits) line column
       → masks ≡ masksOf (h .bits) (h .compression) (h .red) (h .green) (h .blue) (h .alpha) format1
       → p ≡ shown (h .bits) palette masks n → p ≡ pixelAt bytes h palette format1 column row
   unfolding pixelAt
-  pixel-is palette line format1 column row n p masks a b c d g = cc
+  pixel-is palette line format1 top column row n p masks t a b c d g = cc
 
 -- ---- the masks
 

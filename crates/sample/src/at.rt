@@ -24,7 +24,7 @@ pub fn pixel(
     ensures { λ r. ⌜ r ≡ pixelAt (now (bytes .entry)) h (now (palette .entry)) format1 column row ⌝ }
 {
     let long = pixel::place::row_length(h.width, h.bits) as usize;
-    let k = crate::stored::row_at(2147483648 <= h.height, words::magnitude(h.height), row);
+    let k = crate::stored::row_at(dib::is_top_down(h), words::magnitude(h.height), row);
     let line = crate::stored::row_bytes(bytes, long, k as usize);
     let n = crate::stored::number(h.bits, line, column as usize);
     let m = crate::colour::masks(

@@ -9,6 +9,9 @@ bits-part-requires c κs = search needs
 row-length-requires : tie.Need-row-length-requires
 row-length-requires c κs = search needs
 
+is-top-down-requires : tie.Need-is-top-down-requires
+is-top-down-requires c κs = search needs
+
 magnitude-requires : tie.Need-magnitude-requires
 magnitude-requires c κs = search needs
 
@@ -30,6 +33,7 @@ row-spec =
     (tie.spec
     bits-part-requires
     row-length-requires
+    is-top-down-requires
     magnitude-requires
     row-at-requires
     cast-row-bytes

@@ -1,4 +1,3 @@
-use lib.Dec.{leb}
 use borrow.Author.Needs.{needs}
 use Rattle.reading.proofs.full.Statement.{statement}
 use Rattle.reading.proofs.full.Tie as tie
@@ -9,14 +8,17 @@ bits-needed-requires c κs = search needs
 magnitude-requires : tie.Need-magnitude-requires
 magnitude-requires c κs = search needs
 
-cast-t6 : tie.Need-cast-t6
-cast-t6 c = search needs
+is-top-down-requires : tie.Need-is-top-down-requires
+is-top-down-requires c κs = search needs
 
 cast-t7 : tie.Need-cast-t7
 cast-t7 c = search needs
 
 cast-t8 : tie.Need-cast-t8
 cast-t8 c = search needs
+
+cast-t9 : tie.Need-cast-t9
+cast-t9 c = search needs
 
 returns : tie.Need-returns
 returns c =
@@ -31,7 +33,7 @@ returns c =
       rows = c .before .before .before .before .magnitude .ensures t;
       bits = a .h .bits;
       compression = a .h .compression;
-      «top_down» = leb 2147483648 (a .h .height);
+      «top_down» = c .before .before .before .is-top-down .ensures t;
       red = a .h .red;
       green = a .h .green;
       blue = a .h .blue;
@@ -40,4 +42,4 @@ returns c =
 
 pub full-spec : {M : Type 1} → statement M
 full-spec =
-    tie.close (tie.spec bits-needed-requires magnitude-requires cast-t6 cast-t7 cast-t8 returns)
+    tie.close (tie.spec bits-needed-requires magnitude-requires is-top-down-requires cast-t7 cast-t8 cast-t9 returns)

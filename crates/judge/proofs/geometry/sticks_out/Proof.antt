@@ -3,8 +3,8 @@ use borrow.Author.Needs.{needs}
 use Rattle.judge.proofs.geometry.sticks_out.Statement.{statement}
 use Rattle.judge.proofs.geometry.sticks_out.Tie as tie
 
-negative-requires : tie.Need-negative-requires
-negative-requires c κs = search needs
+is-negative-requires : tie.Need-is-negative-requires
+is-negative-requires c κs = search needs
 
 returns : tie.Need-returns
 returns c = search sticks-left
@@ -12,8 +12,8 @@ returns c = search sticks-left
 magnitude-requires : tie.Need-magnitude-requires
 magnitude-requires c κs = search needs
 
-negative-requires-2 : tie.Need-negative-requires-2
-negative-requires-2 c κs = search needs
+is-negative-requires-2 : tie.Need-is-negative-requires-2
+is-negative-requires-2 c κs = search needs
 
 returns-2 : tie.Need-returns-2
 returns-2 c = search sticks-before
@@ -34,10 +34,10 @@ pub sticks-out-spec : {M : Type 1} → statement M
 sticks-out-spec =
     tie.close
     (tie.spec
-    negative-requires
+    is-negative-requires
     returns
     magnitude-requires
-    negative-requires-2
+    is-negative-requires-2
     returns-2
     returns-3
     cast-result

@@ -7,6 +7,9 @@ use Rattle.sample.proofs.at.pixel.Tie as tie
 row-length-requires : tie.Need-row-length-requires
 row-length-requires c κs = search needs
 
+is-top-down-requires : tie.Need-is-top-down-requires
+is-top-down-requires c κs = search needs
+
 magnitude-requires : tie.Need-magnitude-requires
 magnitude-requires c κs = search needs
 
@@ -40,6 +43,7 @@ pixel-spec =
     tie.close
     (tie.spec
     row-length-requires
+    is-top-down-requires
     magnitude-requires
     row-at-requires
     cast-row-bytes
