@@ -1,11 +1,10 @@
 -- Script format: what a call's arguments ask for, and the numbers of a reading's line. Definitions only.
 use mathlib.Core.Path.{_≡_}
 use mathlib.Core.List.{List, [], _∷_}
-use mathlib.Core.Bool.{Bool}
+use mathlib.Core.Bool.{Bool, cond}
 use Prim.Native.Nat.{ℕ}
 use lib.ListN.{length, drop}
 use Rattle.words.specs.Bytes.{le32}
-use Rattle.words.specs.Choice.{pick}
 use Rattle.region.specs.Written.{rectangleAt}
 use Rattle.player.specs.Calls.{Play, playWith}
 use Rattle.reading.specs.declared.Reading.{Reading}
@@ -25,7 +24,7 @@ playAsked s front = playWith s (rectangleAt front 4) (le32 front 20)
 unfoldable pub lineOf : Reading → (header view palette : ℕ) → List ℕ
 lineOf r header view palette =
     r .status ∷ r .«header_len» ∷ header ∷ r .«view_len» ∷ view ∷ r .width ∷ r .rows ∷ r .bits ∷ r .compression
-    ∷ pick (r .«top_down») 1 0 ∷ r .red ∷ r .green ∷ r .blue ∷ r .alpha ∷ palette ∷ []
+    ∷ cond (r .«top_down») 1 0 ∷ r .red ∷ r .green ∷ r .blue ∷ r .alpha ∷ palette ∷ []
 
 abbrev pub lineFrom : (s : List ℕ) → Reading → (palette : List ℕ) → List ℕ
 lineFrom s r palette = lineOf r (sumOf (headerBytes s r)) (sumOf (viewBytes s r)) (sumOf (bytesOf palette))

@@ -1,19 +1,18 @@
 -- What the tests of a header say of its numbers. Assumes nothing.
 use mathlib.Core.Path.{_≡_, refl, sym, ap, ap₂, _∙_}
-use mathlib.Core.Bool.{Bool, true, false, not, _||_, _&&_, true≢false}
+use mathlib.Core.Bool.{Bool, true, false, cond, not, _||_, _&&_, true≢false}
 use Prim.Native.Nat.{ℕ, _+_, _*_, _^_, _≤_, _<_, min}
 use native.Mathlib.Omega.{arith}
 use native.Mathlib.Nat.{mul-le-mul, add-zero}
 use mathlib.Core.Logic.{_⊎_, inl, inr, ⊎-elim}
 use lib.Pow.{pow-mono}
 use lib.Dec.{eqb, ltb, leb, lit≤}
-use borrow.Author.Tests.{lt-ltb, le-ltb, ltb-true, ltb-false, eqb-true, eq-eqb, ne-eqb, le-leb, lt-leb, not-false}
+use borrow.Author.Tests.{lt-ltb, le-ltb, ltb-true, ltb-false, leb-true, eqb-true, not-false}
 use Rattle.pixel.specs.Place.{isDepth, rowLength}
 use Rattle.pixel.proofs.PlaceLaws.{on-depth}
-use Rattle.words.proofs.ChoiceLaws.{or-none, or-false, picked-true, picked-false}
-use Rattle.words.specs.Choice.{pick}
+use Rattle.words.proofs.ChoiceLaws.{or-none, cond-upto}
 use Rattle.dib.specs.declared.Header.{Header}
-use Rattle.dib.specs.Header.{rows as rowsOf, tableStart, entries}
+use Rattle.dib.specs.Header.{hasMasks, rows as rowsOf, tableStart, entries}
 use Rattle.dib.specs.Judged.{badSize, badCompression, badExtent, badColours, badFields, badHeader, bitsNeeded}
 
 -- above one of two bounds is above the lower
@@ -28,16 +27,10 @@ or-min a b c = first (ltb a c) refl
     first true e = lt-ltb (min a b) c (omega (arith, ltb-true a c e))
     first false e = second e (ltb b c) refl
 
-pub most-is : (b : ℕ) → isDepth b ≡ true → (b ≡ 1 → ⊥) → (b ≡ 4 → ⊥) → 256 ≡ min (2 ^ b) 256
-most-is b h n m =
-    on-depth (λ (b : ℕ). (b ≡ 1 → ⊥) → (b ≡ 4 → ⊥) → 256 ≡ min (2 ^ b) 256)
-    (λ n m. absurd (n refl)) (λ n m. absurd (m refl)) (λ n m. refl) (λ n m. refl) (λ n m. refl) (λ n m. refl) b h n m
-
 pub depth-bounds : (b : ℕ) → isDepth b ≡ true → (1 ≤ b) × (b ≤ 32)
 depth-bounds b h = on-depth (λ (b : ℕ). (1 ≤ b) × (b ≤ 32)) (lit≤ tt, lit≤ tt) (lit≤ tt, lit≤ tt) (lit≤ tt, lit≤ tt) (lit≤ tt, lit≤ tt) (lit≤ tt, lit≤ tt) (lit≤ tt, lit≤ tt) b h
 
 pub extent-bounds : (n : ℕ) → badExtent n ≡ false → (1 ≤ n) × (n ≤ 16384)
-unfolding badExtent
 extent-bounds n h = let p = or-none (ltb n 1) (ltb 16384 n) h in (ltb-false n 1 (p .0), ltb-false 16384 n (p .1))
 
 pub colours-bounds : (c b : ℕ) → badColours c b ≡ false → (c ≤ 2 ^ b) × (c ≤ 256)
@@ -73,7 +66,6 @@ sound h e =
 
 -- a header is 40 or 108 bytes long
 pub size-is : (n : ℕ) → badSize n ≡ false → (n ≡ 40) ⊎ (n ≡ 108)
-unfolding badSize
 size-is n e = go (eqb n 40) (eqb n 108) refl refl (not-false _ e)
   where
     go : (x y : Bool) → eqb n 40 ≡ x → eqb n 108 ≡ y → (x || y) ≡ true → (n ≡ 40) ⊎ (n ≡ 108)
@@ -92,49 +84,29 @@ bits-small h e =
     let s = sound h e in
     mul-le-mul (row-small (h .width) (h .bits) (s .width .1) (depth-bounds (h .bits) (s .depth) .1)) (s .rows .1)
 
--- ---- the last test of a row of them
-
-pub depth-last : (b : ℕ) → (b ≡ 1 → ⊥) → (b ≡ 4 → ⊥) → (b ≡ 8 → ⊥) → (b ≡ 16 → ⊥) → (b ≡ 24 → ⊥) → eqb b 32 ≡ isDepth b
-unfolding isDepth
-depth-last b n1 n4 n8 n16 n24 =
-    sym (or-false _ _ (or-false _ _ (or-false _ _ (or-false _ _ (or-false _ _ (ne-eqb b 1 n1) (ne-eqb b 4 n4)) (ne-eqb b 8 n8)) (ne-eqb b 16 n16)) (ne-eqb b 24 n24)) refl)
-
 -- ---- where the colour table stands, and its length
 
 size-bound : (h : Header) → badFields h ≡ false → h .size ≤ 108
 size-bound h e = ⊎-elim (λ q. omega arith) (λ q. omega arith) (size-is (h .size) (sound h e .size))
 
-module _ (h : Header) (e : badFields h ≡ false) where
-  pub start-behind-masks : h .compression ≡ 3 → h .size ≡ 40 → (52 ≡ tableStart h) × (52 ≤ 108)
-  unfolding tableStart
-  start-behind-masks p q =
-      (sym (ap₂ (λ (n m : ℕ). n + pick (eqb m 3 && eqb n 40) 12 0) q p), lit≤ tt)
+-- 2 ^ bits is at most 256 at 8 bits
+pub full-table : (b : ℕ) → cond (leb b 8) (min (2 ^ b) 256) 0 ≡ cond (leb b 8) (2 ^ b) 0
+full-table b = go (leb b 8) refl
+  where
+    go : (t : Bool) → leb b 8 ≡ t → cond t (min (2 ^ b) 256) 0 ≡ cond t (2 ^ b) 0
+    go true e = let l = leb-true b 8 e in omega (arith, pow-mono l)
+    go false e = refl
 
-  pub start-long : h .compression ≡ 3 → (h .size ≡ 40 → ⊥) → (h .size ≡ tableStart h) × (h .size ≤ 108)
-  unfolding tableStart
-  start-long p q = (
-    sym (ap₂ (λ (b c : Bool). h .size + pick (b && c) 12 0) (eq-eqb (h .compression) 3 p) (ne-eqb (h .size) 40 q) ∙ add-zero (h .size)),
-    size-bound h e,
-  )
+-- the table of a header that status 8 lets pass
+pub start-bound : (h : Header) → badFields h ≡ false → tableStart h ≤ 120
+unfolding tableStart
+start-bound h e = let p = cond-upto (hasMasks (h .compression) && eqb (h .size) 40) 12 0 {n = 12} (lit≤ tt) (lit≤ tt) in let q = size-bound h e in omega arith
 
-  pub start-plain : (h .compression ≡ 3 → ⊥) → (h .size ≡ tableStart h) × (h .size ≤ 108)
-  unfolding tableStart
-  start-plain p =
-      (sym (ap (λ (b : Bool). h .size + pick (b && eqb (h .size) 40) 12 0) (ne-eqb (h .compression) 3 p) ∙ add-zero (h .size)), size-bound h e)
-
-  pub entries-full : h .colours ≡ 0 → h .bits ≤ 8 → (min (2 ^ h .bits) 256 ≡ entries h) × (min (2 ^ h .bits) 256 ≤ 256)
-  unfolding entries
-  entries-full p q =
-      let b : 2 ^ h .bits ≤ 2 ^ 8 = pow-mono q in
-      (omega (arith, picked-true _ (pick (leb (h .bits) 8) (2 ^ h .bits) 0) (h .colours) (eq-eqb (h .colours) 0 p), picked-true _ (2 ^ h .bits) 0 (le-leb (h .bits) 8 q)), omega arith)
-
-  pub entries-none : h .colours ≡ 0 → 8 < h .bits → (0 ≡ entries h) × (0 ≤ 256)
-  unfolding entries
-  entries-none p q = (sym (picked-true _ _ _ (eq-eqb (h .colours) 0 p) ∙ picked-false _ _ _ (lt-leb (h .bits) 8 q)), lit≤ tt)
-
-  pub entries-used : (h .colours ≡ 0 → ⊥) → (h .colours ≡ entries h) × (h .colours ≤ 256)
-  unfolding entries
-  entries-used p = (sym (picked-false _ _ _ (ne-eqb (h .colours) 0 p)), sound h e .colours .1)
+pub entries-bound : (h : Header) → badFields h ≡ false → entries h ≤ 256
+unfolding entries
+entries-bound h e =
+    let f = cond-upto (leb (h .bits) 8) (min (2 ^ h .bits) 256) 0 {n = 256} (omega arith) (lit≤ tt) in
+    cond-upto (eqb (h .colours) 0) (cond (leb (h .bits) 8) (2 ^ h .bits) 0) (h .colours) (omega (arith, full-table (h .bits))) (sound h e .colours .1)
 
 -- a header part that status 8 lets pass
 pub passed-fields : (n : ℕ) (h : Header) → badHeader n h ≡ false → badFields h ≡ false

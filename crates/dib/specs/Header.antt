@@ -1,11 +1,10 @@
 -- Document 01, "Reading a picture": a DIB's header, from the bytes of its header part. Definitions only.
 -- A byte past the part's end reads as 0, so these take every part; whether the part is long enough is judged in Judged.antt.
 use Prim.Native.Nat.{ℕ, _+_, _*_, _^_}
-use mathlib.Core.Bool.{Bool, _&&_}
+use mathlib.Core.Bool.{Bool, cond, _&&_}
 use mathlib.Core.List.{List}
 use lib.Dec.{eqb, leb}
 use Rattle.words.specs.Bytes.{le16, le32, negative32, magnitude32}
-use Rattle.words.specs.Choice.{pick}
 use Rattle.dib.specs.declared.Header.{Header}
 
 -- compression 3 is BI_BITFIELDS, 0 BI_RGB
@@ -24,10 +23,10 @@ headerOf h = record {
   bits = le16 h 14;
   compression = le32 h 16;
   colours = le32 h 32;
-  red = pick (hasMasks (le32 h 16)) (le32 h 40) 0;
-  green = pick (hasMasks (le32 h 16)) (le32 h 44) 0;
-  blue = pick (hasMasks (le32 h 16)) (le32 h 48) 0;
-  alpha = pick (hasMasks (le32 h 16) && eqb (le32 h 0) 108) (le32 h 52) 0;
+  red = cond (hasMasks (le32 h 16)) (le32 h 40) 0;
+  green = cond (hasMasks (le32 h 16)) (le32 h 44) 0;
+  blue = cond (hasMasks (le32 h 16)) (le32 h 48) 0;
+  alpha = cond (hasMasks (le32 h 16) && eqb (le32 h 0) 108) (le32 h 52) 0;
 }
 
 -- "Positive height: the last stored row is the top one."
@@ -39,8 +38,8 @@ rows h = magnitude32 (h .height)
 
 -- "The colour table follows": behind the header, and behind the three masks of a 40-byte header
 unfoldable pub tableStart : Header → ℕ
-tableStart h = h .size + pick (hasMasks (h .compression) && eqb (h .size) 40) 12 0
+tableStart h = h .size + cond (hasMasks (h .compression) && eqb (h .size) 40) 12 0
 
 -- "At 1, 4, 8 bits it has the colours used, or 2^bits where that is 0. At 16, 24, 32 it has the colours used .."
 unfoldable pub entries : Header → ℕ
-entries h = pick (eqb (h .colours) 0) (pick (leb (h .bits) 8) (2 ^ h .bits) 0) (h .colours)
+entries h = cond (eqb (h .colours) 0) (cond (leb (h .bits) 8) (2 ^ h .bits) 0) (h .colours)

@@ -1,28 +1,26 @@
 -- Document 01, refusals 8, 9 and 10: what a DIB's header part and the length of its bits part are judged by. Definitions only.
 use Prim.Native.Nat.{ℕ, _+_, _*_, _^_}
 use mathlib.Core.Bool.{Bool, not, _&&_, _||_}
-use mathlib.Core.List.{List}
 use lib.Dec.{eqb, leb, ltb}
 use lib.Bits.{bitAnd}
-use lib.ListN.{length}
 use Rattle.words.specs.Choice.{given}
 use Rattle.pixel.specs.Masks.{isChannel}
 use Rattle.pixel.specs.Place.{isDepth, rowLength}
 use Rattle.dib.specs.declared.Header.{Header}
-use Rattle.dib.specs.Header.{hasMasks, headerOf, rows, tableStart, entries}
+use Rattle.dib.specs.Header.{hasMasks, rows, tableStart, entries}
 
 -- ---- 8: "header part too short for header, masks and table; size, planes (1), bits or compression not listed; width, or height
 -- without sign, not 1..16,384; colours used over 2^bits or over 256"
 
-unfoldable pub badSize : (size : ℕ) → Bool
+abbrev pub badSize : (size : ℕ) → Bool
 badSize size = not (eqb size 40 || eqb size 108)
 
 -- "Compression 0 (BI_RGB) or 3 (BI_BITFIELDS, 16 and 32 bits only)."
-unfoldable pub badCompression : (compression bits : ℕ) → Bool
+abbrev pub badCompression : (compression bits : ℕ) → Bool
 badCompression compression bits = not (eqb compression 0 || hasMasks compression && (eqb bits 16 || eqb bits 32))
 
 -- not 1..16,384
-unfoldable pub badExtent : ℕ → Bool
+abbrev pub badExtent : ℕ → Bool
 badExtent n = ltb n 1 || ltb 16384 n
 
 unfoldable pub badColours : (colours bits : ℕ) → Bool
@@ -40,14 +38,14 @@ badHeader len h = badFields h || ltb len (tableStart h + 4 * entries h)
 -- ---- 9: "under BI_BITFIELDS, a mask breaks its rules (BI_RGB ignores masks)"
 -- "Red, green and blue are each non-zero, no two masks overlap, all lie in the pixel's bits. The alpha mask .. may be zero."
 
-unfoldable pub overlap : (a b : ℕ) → Bool
+abbrev pub overlap : (a b : ℕ) → Bool
 overlap a b = not (eqb (bitAnd a b) 0)
 
-unfoldable pub badChannels : (bits red green blue alpha : ℕ) → Bool
+abbrev pub badChannels : (bits red green blue alpha : ℕ) → Bool
 badChannels bits red green blue alpha =
     not (isChannel bits red) || not (isChannel bits green) || not (isChannel bits blue) || not (eqb alpha 0 || isChannel bits alpha)
 
-unfoldable pub badOverlaps : (red green blue alpha : ℕ) → Bool
+abbrev pub badOverlaps : (red green blue alpha : ℕ) → Bool
 badOverlaps red green blue alpha =
     overlap red green || overlap red blue || overlap green blue || overlap alpha red || overlap alpha green || overlap alpha blue
 
@@ -61,9 +59,6 @@ badMasks h =
 unfoldable pub bitsNeeded : Header → ℕ
 bitsNeeded h = rowLength (h .width) (h .bits) * rows h
 
--- the first of 8, 9 and 10 that applies to a DIB's header part and the length of its bits part, or 0
-unfoldable pub dibStatus : (header : List ℕ) (bits : ℕ) → ℕ
-dibStatus header bits =
-    given 8 (badHeader (length header) (headerOf header))
-    (given 9 (badMasks (headerOf header))
-    (given 10 (ltb bits (bitsNeeded (headerOf header))) 0))
+-- the first of 8, 9 and 10 that applies to a header whose part has `len` bytes and to a bits part of `bits` bytes, or 0
+unfoldable pub dibStatus : (len : ℕ) → Header → (bits : ℕ) → ℕ
+dibStatus len h bits = given 8 (badHeader len h) (given 9 (badMasks h) (given 10 (ltb bits (bitsNeeded h)) 0))

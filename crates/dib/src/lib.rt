@@ -1,7 +1,7 @@
 // A DIB's header: read to its numbers, and judged (statuses 8, 9 and 10).
 ghost use mathlib.Core.Path.{_≡_};
 ghost use mathlib.Core.Bool.{false};
-ghost use Prim.Native.Nat.{_^_, _≤_, min};
+ghost use Prim.Native.Nat.{_<_};
 ghost use lib.ListN.{length};
 ghost use Rattle.dib.specs.Header.{headerOf, topDown, tableStart, entries};
 ghost use Rattle.dib.specs.Judged.{badFields, badHeader, badMasks, bitsNeeded, dibStatus};
@@ -56,65 +56,37 @@ pub fn read(h: &[u8]) -> Header
 
 // Where the colour table begins in the header part.
 pub fn table_start(h: Header) -> usize
-    requires { ⌜ badFields h ≡ false ⌝ }
-    ensures { λ r. ⌜ (r ≡ tableStart h) × (r ≤ 108) ⌝ }
+    ensures { λ r. ⌜ (r ≡ tableStart h) × (r < 8589934592) ⌝ }
 {
-    if h.compression == 3 {
-        if h.size == 40 {
-            return 52;
-        }
-        return h.size as usize;
-    }
-    h.size as usize
+    h.size as usize + words::either((h.compression == 3) & (h.size == 40), 12, 0) as usize
 }
 
 // How many entries the colour table has.
 pub fn table_entries(h: Header) -> usize
-    requires { ⌜ badFields h ≡ false ⌝ }
-    ensures { λ r. ⌜ (r ≡ entries h) × (r ≤ 256) ⌝ }
+    ensures { λ r. ⌜ (r ≡ entries h) × (r < 4294967296) ⌝ }
 {
-    if h.colours == 0 {
-        if h.bits <= 8 {
-            return limits::most_colours(h.bits) as usize;
-        }
-        return 0;
-    }
-    h.colours as usize
+    let full = words::either(h.bits <= 8, limits::most_colours(h.bits), 0);
+    words::either(h.colours == 0, full, h.colours) as usize
 }
 
 // Status 8, all but the length of the header part.
 fn bad_fields(h: Header) -> bool
     ensures { λ r. ⌜ r ≡ badFields h ⌝ }
 {
-    if limits::bad_size(h.size) {
-        return true;
-    }
-    if h.planes != 1 {
-        return true;
-    }
-    if !limits::is_depth(h.bits) {
-        return true;
-    }
-    if limits::bad_compression(h.compression, h.bits) {
-        return true;
-    }
-    if limits::bad_extent(h.width) {
-        return true;
-    }
-    if limits::bad_extent(words::magnitude(h.height)) {
-        return true;
-    }
-    limits::bad_colours(h.colours, h.bits)
+    limits::bad_size(h.size)
+        | (h.planes != 1)
+        | !limits::is_depth(h.bits)
+        | limits::bad_compression(h.compression, h.bits)
+        | limits::bad_extent(h.width)
+        | limits::bad_extent(words::magnitude(h.height))
+        | limits::bad_colours(h.colours, h.bits)
 }
 
 // Status 8.
 fn bad_header(len: usize, h: Header) -> bool
     ensures { λ r. ⌜ r ≡ badHeader len h ⌝ }
 {
-    if bad_fields(h) {
-        return true;
-    }
-    len < table_start(h) + 4 * table_entries(h)
+    bad_fields(h) | (len < table_start(h) + 4 * table_entries(h))
 }
 
 // Status 9.
@@ -122,13 +94,9 @@ fn bad_masks(h: Header) -> bool
     requires { ⌜ badFields h ≡ false ⌝ }
     ensures { λ r. ⌜ r ≡ badMasks h ⌝ }
 {
-    if h.compression == 3 {
-        if limits::bad_channels(h.bits, h.red, h.green, h.blue, h.alpha) {
-            return true;
-        }
-        return limits::bad_overlaps(h.red, h.green, h.blue, h.alpha);
-    }
-    false
+    (h.compression == 3)
+        & (limits::bad_channels(h.bits, h.red, h.green, h.blue, h.alpha)
+            | limits::bad_overlaps(h.red, h.green, h.blue, h.alpha))
 }
 
 // Is the first stored row the top one?
@@ -146,19 +114,12 @@ pub fn bits_needed(h: Header) -> u64
     pixel::place::row_length(h.width, h.bits) * words::magnitude(h.height) as u64
 }
 
-// The first of 8, 9 and 10 that applies to a header part and a bits part of `bits` bytes, or 0.
-pub fn status(header: &[u8], bits: u32) -> u32
-    ensures { λ r. ⌜ r ≡ dibStatus (now (header .entry)) bits ⌝ }
+// The first of 8, 9 and 10 that applies to a header whose part has `len` bytes and a bits part of `bits` bytes, or 0.
+pub fn status(len: usize, h: Header, bits: u32) -> u32
+    ensures { λ r. ⌜ r ≡ dibStatus len h bits ⌝ }
 {
-    let h = read(header);
-    if bad_header(header.len(), h) {
+    if bad_header(len, h) {
         return 8;
     }
-    if bad_masks(h) {
-        return 9;
-    }
-    if (bits as u64) < bits_needed(h) {
-        return 10;
-    }
-    0
+    words::given(9, bad_masks(h), words::given(10, (bits as u64) < bits_needed(h), 0))
 }

@@ -1,6 +1,6 @@
 -- A row that is fetched and painted is drawn as the record's meaning says. Assumes nothing.
 use mathlib.Core.Path.{_≡_, refl, sym, ap, ap₂, _∙_, subst}
-use mathlib.Core.Bool.{Bool, true, false, true≢false}
+use mathlib.Core.Bool.{Bool, true, false}
 use mathlib.Core.List.{List}
 use Prim.Native.Nat.{ℕ, _+_, _-_, _*_, _≤_, _<_}
 use native.Mathlib.Nat.{add-sub-cancel-left, mul-le-mul-left, mul-suc, mul-comm}
@@ -10,15 +10,13 @@ use lib.Seq.{sets, getD-take}
 use lib.IntN.{pos, _+ℤ_}
 use Rattle.words.specs.Bytes.{magnitude32, signed32}
 use Rattle.words.specs.Filled.{Filled}
-use Rattle.words.proofs.ChoiceLaws.{picked-true}
+use Rattle.words.proofs.ChoiceLaws.{cond-false}
 use Rattle.pixel.specs.Place.{maskPixel}
 use Rattle.pixel.proofs.PlaceLaws.{remainder-lt}
-use Rattle.dib.specs.declared.Header.{Header}
 use Rattle.dib.specs.Header.{rows}
-use Rattle.emr.specs.declared.Numbers.{Numbers}
-use Rattle.emr.specs.Numbers.{absent}
-use Rattle.judge.specs.declared.Checked.the-variants.{Accepted}
-use Rattle.judge.specs.Judged.{headerIn, checkOf}
+use Rattle.dib.proofs.JudgeLaws.{sound}
+use Rattle.judge.specs.declared.Record.{Record}
+use Rattle.judge.specs.Good.{Good}
 use Rattle.region.specs.declared.Target.{Target}
 use Rattle.region.specs.Target.{row}
 use Rattle.journal.specs.Drawing.{Paint, drawn}
@@ -31,105 +29,100 @@ use Rattle.meaning.specs.Sampling.{sourceColumn, sourceShown, sourcePixel, mask
 use Rattle.meaning.specs.Meaning.{ruleOf, meaningIn, paintOn}
 use Rattle.meaning.specs.Reading.{InPicture}
 use Rattle.meaning.proofs.FitLaws.{source-fits, column-inside}
-use Rattle.meaning.proofs.RowLaws.{mask-wide}
+use Rattle.meaning.proofs.RowLaws.{fields-ok}
 use Rattle.draw.specs.Ready.{Mapped}
-
--- what holds where a picture is present holds of an absent one
-pub absent-none : {P : Type 0} (b x : Bool) → b ≡ x → b ≡ true → x ≡ false → P
-absent-none b x e t f = absurd (true≢false (sym t ∙ e ∙ f))
 
 -- ---- a row's source pixels and mask bits are those of the record's meaning
 
-module _ (s : List ℕ) (n : Numbers) where
-  source-absent : (a b row : ℕ) → absent (n .source) ≡ true → sourceShown s n a row ≡ sourceShown s n b row
+module _ (s : List ℕ) (rec : Record) where
+  source-absent : (a b row : ℕ) → rec .source .present ≡ false → sourceShown s rec a row ≡ sourceShown s rec b row
   unfolding sourceShown
-  source-absent a b row e = picked-true (absent (n .source)) 0 _ e ∙ sym (picked-true (absent (n .source)) 0 _ e)
+  source-absent a b row e = cond-false _ _ 0 e ∙ sym (cond-false _ _ 0 e)
 
-  mask-absent : (a b row : ℕ) → absent (n .mask) ≡ true → maskShown s n a row ≡ maskShown s n b row
+  mask-absent : (a b row : ℕ) → rec .mask .present ≡ false → maskShown s rec a row ≡ maskShown s rec b row
   unfolding maskShown
-  mask-absent a b row e = picked-true (absent (n .mask)) 0 _ e ∙ sym (picked-true (absent (n .mask)) 0 _ e)
+  mask-absent a b row e = cond-false _ _ 0 e ∙ sym (cond-false _ _ 0 e)
 
-  module _ (t : Target) (columns spots : List ℕ) (m : Mapped s n t columns spots) (j q : ℕ) (l : q < t .columns .count) where
-    source-at : sourceShown s n (getD columns q 0) (sourceColumn (n .source .y) (n .«cy_src») (n .cy) j) ≡ sourcePixel s n (t .columns .index + q) j
+  module _ (t : Target) (columns spots : List ℕ) (m : Mapped rec t columns spots) (j q : ℕ) (l : q < t .columns .count) where
+    source-at : sourceShown s rec (getD columns q 0) (sourceColumn (rec .source .y) (rec .«cy_src») (rec .cy) j) ≡ sourcePixel s rec (t .columns .index + q) j
     unfolding sourcePixel
-    source-at = go (absent (n .source)) refl
+    source-at = go (rec .source .present) refl
       where
-        go : (b : Bool) → absent (n .source) ≡ b
-            → sourceShown s n (getD columns q 0) (sourceColumn (n .source .y) (n .«cy_src») (n .cy) j)
-            ≡ sourceShown s n (sourceColumn (n .source .x) (n .«cx_src») (n .cx) (t .columns .index + q)) (sourceColumn (n .source .y) (n .«cy_src») (n .cy) j)
-        go true e = source-absent _ _ _ e
-        go false e = ap (λ (k : ℕ). sourceShown s n k (sourceColumn (n .source .y) (n .«cy_src») (n .cy) j)) (m .source e q l)
+        go : (b : Bool) → rec .source .present ≡ b
+            → sourceShown s rec (getD columns q 0) (sourceColumn (rec .source .y) (rec .«cy_src») (rec .cy) j)
+            ≡ sourceShown s rec (sourceColumn (rec .source .x) (rec .«cx_src») (rec .cx) (t .columns .index + q)) (sourceColumn (rec .source .y) (rec .«cy_src») (rec .cy) j)
+        go false e = source-absent _ _ _ e
+        go true e = ap (λ (k : ℕ). sourceShown s rec k (sourceColumn (rec .source .y) (rec .«cy_src») (rec .cy) j)) (m .source e q l)
 
-    mask-at : maskShown s n (getD spots q 0) (maskPixel (signed32 (n .mask .y)) j (rows (headerIn s (n .mask)))) ≡ maskBit s n (t .columns .index + q) j
+    mask-at : maskShown s rec (getD spots q 0) (maskPixel (signed32 (rec .mask .y)) j (rows (rec .mask .header))) ≡ maskBit s rec (t .columns .index + q) j
     unfolding maskBit
-    mask-at = go (absent (n .mask)) refl
+    mask-at = go (rec .mask .present) refl
       where
-        go : (b : Bool) → absent (n .mask) ≡ b
-            → maskShown s n (getD spots q 0) (maskPixel (signed32 (n .mask .y)) j (rows (headerIn s (n .mask))))
-            ≡ maskShown s n (maskPixel (signed32 (n .mask .x)) (t .columns .index + q) (headerIn s (n .mask) .width)) (maskPixel (signed32 (n .mask .y)) j (rows (headerIn s (n .mask))))
-        go true e = mask-absent _ _ _ e
-        go false e = ap (λ (k : ℕ). maskShown s n k (maskPixel (signed32 (n .mask .y)) j (rows (headerIn s (n .mask))))) (m .mask e q l)
+        go : (b : Bool) → rec .mask .present ≡ b
+            → maskShown s rec (getD spots q 0) (maskPixel (signed32 (rec .mask .y)) j (rows (rec .mask .header)))
+            ≡ maskShown s rec (maskPixel (signed32 (rec .mask .x)) (t .columns .index + q) (rec .mask .header .width)) (maskPixel (signed32 (rec .mask .y)) j (rows (rec .mask .header)))
+        go false e = mask-absent _ _ _ e
+        go true e = ap (λ (k : ℕ). maskShown s rec k (maskPixel (signed32 (rec .mask .y)) j (rows (rec .mask .header)))) (m .mask e q l)
 
-  module _ (t : Target) (columns spots : List ℕ) (m : Mapped s n t columns spots) (j : ℕ) where
+  module _ (t : Target) (columns spots : List ℕ) (m : Mapped rec t columns spots) (j : ℕ) where
     -- the front of the buffers that a row is fetched to
     pub colours-are : (d₀ d : List ℕ)
-        → Filled (λ k. sourceShown s n (getD columns k 0) (sourceColumn (n .source .y) (n .«cy_src») (n .cy) j)) d₀ (length columns) d
-        → (q : ℕ) → q < t .columns .count → getD (take (length columns) d) q 0 ≡ sourcePixel s n (t .columns .index + q) j
+        → Filled (λ k. sourceShown s rec (getD columns k 0) (sourceColumn (rec .source .y) (rec .«cy_src») (rec .cy) j)) d₀ (length columns) d
+        → (q : ℕ) → q < t .columns .count → getD (take (length columns) d) q 0 ≡ sourcePixel s rec (t .columns .index + q) j
     colours-are d₀ d p q l =
         let i : q < length columns = omega (arith, m .as-many) in
         getD-take (length columns) d q 0 i ∙ p .front q i ∙ source-at t columns spots m j q l
 
-    pub bits-are : (h : Header) (d₀ d : List ℕ) → h ≡ headerIn s (n .mask)
-        → Filled (λ k. maskShown s n (getD spots k 0) (maskPixel (signed32 (n .mask .y)) j (rows h))) d₀ (length spots) d
-        → (q : ℕ) → q < t .columns .count → getD (take (length columns) d) q 0 ≡ maskBit s n (t .columns .index + q) j
-    bits-are h d₀ d e p q l =
+    pub bits-are : (d₀ d : List ℕ)
+        → Filled (λ k. maskShown s rec (getD spots k 0) (maskPixel (signed32 (rec .mask .y)) j (rows (rec .mask .header)))) d₀ (length spots) d
+        → (q : ℕ) → q < t .columns .count → getD (take (length columns) d) q 0 ≡ maskBit s rec (t .columns .index + q) j
+    bits-are d₀ d p q l =
         let i : q < length columns = omega (arith, m .as-many) in
         let k : q < length spots = omega (arith, m .as-many-spots) in
-        getD-take (length columns) d q 0 i ∙ p .front q k
-        ∙ ap (λ (x : Header). maskShown s n (getD spots q 0) (maskPixel (signed32 (n .mask .y)) j (rows x))) e
-        ∙ mask-at t columns spots m j q l
+        getD-take (length columns) d q 0 i ∙ p .front q k ∙ mask-at t columns spots m j q l
+
+pub mask-wide : {len : ℕ} (rec : Record) → Good len rec → rec .mask .present ≡ true → 1 ≤ rec .mask .header .width
+mask-wide rec g a = sound (rec .mask .header) (fields-ok (rec .mask) (g .mask) a) .width .0
 
 -- the columns that are read lie in the pictures
-module _ (s : List ℕ) (n : Numbers) (e : Accepted n ≡ checkOf s) (t : Target) (columns spots : List ℕ) (m : Mapped s n t columns spots) (h : Header) where
-  pub columns-inside : t .columns .index + t .columns .count ≤ magnitude32 (n .cx) → h ≡ headerIn s (n .source) → absent (n .source) ≡ false
-      → InPicture (h .width) columns
-  columns-inside l g a k i =
-      let f = source-fits s n e a in
+module _ {len : ℕ} (rec : Record) (g : Good len rec) (t : Target) (columns spots : List ℕ) (m : Mapped rec t columns spots) where
+  pub columns-inside : t .columns .index + t .columns .count ≤ magnitude32 (rec .cx) → rec .source .present ≡ true
+      → InPicture (rec .source .header .width) columns
+  columns-inside l a k i =
+      let f = source-fits rec g a in
       let q : k < t .columns .count = omega (arith, m .as-many) in
-      let w : headerIn s (n .source) .width ≡ h .width = ap (λ (x : Header). x .width) (sym g) in
-      omega (arith, m .source a k q, w, column-inside (n .source .x) (n .«cx_src») (n .cx) (t .columns .index + k) (headerIn s (n .source) .width) (omega arith) (f .cx .0) (f .columns .1))
+      omega (arith, m .source a k q, column-inside (rec .source .x) (rec .«cx_src») (rec .cx) (t .columns .index + k) (rec .source .header .width) (omega arith) (f .cx .0) (f .columns .1))
 
-  pub spots-inside : h ≡ headerIn s (n .mask) → absent (n .mask) ≡ false → InPicture (h .width) spots
+  pub spots-inside : rec .mask .present ≡ true → InPicture (rec .mask .header .width) spots
   unfolding maskPixel
-  spots-inside g a k i =
+  spots-inside a k i =
       let q : k < t .columns .count = omega (arith, m .as-many-spots) in
-      let w : headerIn s (n .mask) .width ≡ h .width = ap (λ (x : Header). x .width) (sym g) in
-      omega (arith, m .mask a k q, w, remainder-lt (signed32 (n .mask .x) +ℤ pos (t .columns .index + k)) (headerIn s (n .mask) .width) (mask-wide s n e a))
+      omega (arith, m .mask a k q, remainder-lt (signed32 (rec .mask .x) +ℤ pos (t .columns .index + k)) (rec .mask .header .width) (mask-wide rec g a))
 
 -- ---- so the row's rule is the play's
 
-module _ (s : List ℕ) (n : Numbers) (t : Target) (brush i : ℕ) (rule : Rule) (colours bits : List ℕ) (e : rule ≡ ruleOf (n .kind) (n .operation) brush)
-    (c : (q : ℕ) → q < t .columns .count → getD colours q 0 ≡ sourcePixel s n (t .columns .index + q) (t .rows .index + i))
-    (b : (q : ℕ) → q < t .columns .count → getD bits q 0 ≡ maskBit s n (t .columns .index + q) (t .rows .index + i)) where
-  row-alike : Alike (rowPaint rule colours bits (t .columns .at)) (paintOn t (meaningIn s n) brush) (t .columns .at) (t .columns .count) (t .rows .at + i)
+module _ (s : List ℕ) (rec : Record) (t : Target) (brush i : ℕ) (rule : Rule) (colours bits : List ℕ) (e : rule ≡ ruleOf (rec .action) brush)
+    (c : (q : ℕ) → q < t .columns .count → getD colours q 0 ≡ sourcePixel s rec (t .columns .index + q) (t .rows .index + i))
+    (b : (q : ℕ) → q < t .columns .count → getD bits q 0 ≡ maskBit s rec (t .columns .index + q) (t .rows .index + i)) where
+  row-alike : Alike (rowPaint rule colours bits (t .columns .at)) (paintOn t (meaningIn s rec) brush) (t .columns .at) (t .columns .count) (t .rows .at + i)
   row-alike q old l =
       let back : t .columns .at + q - t .columns .at ≡ q = add-sub-cancel-left (t .columns .at) q in
       let x : t .columns .index + q ≡ t .columns .index + (t .columns .at + q - t .columns .at) = ap (λ (k : ℕ). t .columns .index + k) (sym back) in
       let y : t .rows .index + i ≡ t .rows .index + (t .rows .at + i - t .rows .at) =
       ap (λ (k : ℕ). t .rows .index + k) (sym (add-sub-cancel-left (t .rows .at) i)) in
-      λ u. paintedBy (e u) ((ap (λ (k : ℕ). getD colours k 0) back ∙ c q l ∙ ap₂ (sourcePixel s n) x y) u)
-      ((ap (λ (k : ℕ). getD bits k 0) back ∙ b q l ∙ ap₂ (maskBit s n) x y) u) old
+      λ u. paintedBy (e u) ((ap (λ (k : ℕ). getD colours k 0) back ∙ c q l ∙ ap₂ (sourcePixel s rec) x y) u)
+      ((ap (λ (k : ℕ). getD bits k 0) back ∙ b q l ∙ ap₂ (maskBit s rec) x y) u) old
 
   -- a turn of the loop over the rows
   pub rows-more : (w at : ℕ) (s₀ j₀ s1 j1 s2 j2 : List ℕ) (k : ℕ)
-      → Rows w (paintOn t (meaningIn s n) brush) at (t .columns .at) (t .columns .count) (t .rows .at) (t .rows .count) s₀ j₀ s1 j1 k i
+      → Rows w (paintOn t (meaningIn s rec) brush) at (t .columns .at) (t .columns .count) (t .rows .at) (t .rows .count) s₀ j₀ s1 j1 k i
       → (c′ : ℕ) → i < t .rows .count → length colours ≡ c′ → c′ ≡ t .columns .count
       → s2 ≡ drawn w (rowPaint rule colours bits (t .columns .at)) (row (t .columns .at) (length colours) (t .rows .at + i)) s1
       → j2 ≡ sets j1 (k * stride) (bytesOf (saved w (rowPaint rule colours bits (t .columns .at)) (row (t .columns .at) (length colours) (t .rows .at + i)) s1))
-      → Rows w (paintOn t (meaningIn s n) brush) at (t .columns .at) (t .columns .count) (t .rows .at) (t .rows .count) s₀ j₀ s2 j2 (k + c′) (i + 1)
+      → Rows w (paintOn t (meaningIn s rec) brush) at (t .columns .at) (t .columns .count) (t .rows .at) (t .rows .count) s₀ j₀ s2 j2 (k + c′) (i + 1)
   rows-more w at s₀ j₀ s1 j1 s2 j2 k r c′ h z′ z″ es ej =
       let f : Paint = rowPaint rule colours bits (t .columns .at) in
-      let g : Paint = paintOn t (meaningIn s n) brush in
+      let g : Paint = paintOn t (meaningIn s rec) brush in
       let x : ℕ = t .columns .at in
       let y : ℕ = t .rows .at + i in
       let z : length colours ≡ t .columns .count = z′ ∙ z″ in

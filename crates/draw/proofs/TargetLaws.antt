@@ -1,6 +1,6 @@
 -- What the rows of a clipped target are drawn from is there. Assumes nothing.
 use mathlib.Core.Path.{_≡_, sym, ap, _∙_, subst}
-use mathlib.Core.Bool.{false}
+use mathlib.Core.Bool.{true}
 use mathlib.Core.List.{List, []}
 use Prim.Native.Nat.{ℕ, _+_, _≤_, _<_}
 use native.Mathlib.Omega.{arith}
@@ -8,9 +8,7 @@ use lib.ListN.{length, getD, take}
 use lib.Seq.{sets, getD-take, length-take-le}
 use Rattle.words.specs.Bytes.{magnitude32, signed32}
 use Rattle.pixel.specs.Place.{maskPixel}
-use Rattle.emr.specs.declared.Numbers.{Numbers}
-use Rattle.emr.specs.Numbers.{absent}
-use Rattle.judge.specs.Judged.{headerIn}
+use Rattle.judge.specs.declared.Record.{Record}
 use Rattle.region.specs.declared.Target.{Target}
 use Rattle.region.specs.declared.Rectangle.{Rectangle}
 use Rattle.region.specs.Target.{Place, block, placesIn, targetOf}
@@ -18,7 +16,6 @@ use Rattle.region.proofs.TargetLaws.{On, inside, Numbered, numbered, block-none
 use Rattle.journal.specs.Drawing.{Paint, drawn}
 use Rattle.journal.specs.Records.{bytesOf, saved}
 use Rattle.meaning.specs.Sampling.{sourceColumn}
-use Rattle.meaning.specs.Meaning.{boundsOf}
 use Rattle.draw.specs.Ready.{Lies, Mapped}
 
 -- a target without columns draws nothing
@@ -34,12 +31,12 @@ module _ (w : ℕ) (f : Paint) (t : Target) (e : t .columns .count ≡ 0) (s : L
   unfolding saved bytesOf
   none-saved j k = ap (λ (ps : List Place). sets j k (bytesOf (saved w f ps s))) (sym no-places)
 
-pub target-lies : (w h : ℕ) (clip : Rectangle) (n : Numbers) (t : Target) → t ≡ targetOf w h clip (boundsOf n) (n .x) (n .y) (n .cx) (n .cy)
+pub target-lies : (w h : ℕ) (clip : Rectangle) (n : Record) (t : Target) → t ≡ targetOf w h clip (n .bounds) (n .x) (n .y) (n .cx) (n .cy)
     → w ≤ 4096 → (t .columns .count ≡ 0 → ⊥) → Lies w h n t
 target-lies w h clip n t e l z =
-    let on = subst (λ (t : Target). On w (t .columns) × On h (t .rows)) (sym e) (inside w h clip (boundsOf n) (n .x) (n .y) (n .cx) (n .cy)) in
+    let on = subst (λ (t : Target). On w (t .columns) × On h (t .rows)) (sym e) (inside w h clip (n .bounds) (n .x) (n .y) (n .cx) (n .cy)) in
     let num = subst (λ (t : Target). Numbered (magnitude32 (n .cx)) (t .columns) × Numbered (magnitude32 (n .cy)) (t .rows)) (sym e)
-    (numbered w h clip (boundsOf n) (n .x) (n .y) (n .cx) (n .cy)) in
+    (numbered w h clip (n .bounds) (n .x) (n .y) (n .cx) (n .cy)) in
     let some : 1 ≤ t .columns .count = omega (arith, z) in
     record {
       some = some;
@@ -50,14 +47,13 @@ target-lies w h clip n t e l z =
       line-numbers = num .1 .last;
     }
 
-pub mapped : (s : List ℕ) (n : Numbers) (t : Target) (d e : List ℕ) (w : ℕ) → t .columns .count ≤ length d → t .columns .count ≤ length e
-    → w ≡ headerIn s (n .mask) .width
-    → (absent (n .source) ≡ false → (k : ℕ) → k < t .columns .count → getD d k 0 ≡ sourceColumn (n .source .x) (n .«cx_src») (n .cx) (t .columns .index + k))
-    → (absent (n .mask) ≡ false → (k : ℕ) → k < t .columns .count → getD e k 0 ≡ maskPixel (signed32 (n .mask .x)) (t .columns .index + k) w)
-    → Mapped s n t (take (t .columns .count) d) (take (t .columns .count) e)
-mapped s n t d e w a b q f g = record {
+pub mapped : (rec : Record) (t : Target) (d e : List ℕ) → t .columns .count ≤ length d → t .columns .count ≤ length e
+    → (rec .source .present ≡ true → (k : ℕ) → k < t .columns .count → getD d k 0 ≡ sourceColumn (rec .source .x) (rec .«cx_src») (rec .cx) (t .columns .index + k))
+    → (rec .mask .present ≡ true → (k : ℕ) → k < t .columns .count → getD e k 0 ≡ maskPixel (signed32 (rec .mask .x)) (t .columns .index + k) (rec .mask .header .width))
+    → Mapped rec t (take (t .columns .count) d) (take (t .columns .count) e)
+mapped rec t d e a b f g = record {
   as-many = length-take-le (t .columns .count) d a;
   as-many-spots = length-take-le (t .columns .count) e b;
   source = λ p k l. getD-take (t .columns .count) d k 0 l ∙ f p k l;
-  mask = λ p k l. getD-take (t .columns .count) e k 0 l ∙ g p k l ∙ ap (maskPixel (signed32 (n .mask .x)) (t .columns .index + k)) q;
+  mask = λ p k l. getD-take (t .columns .count) e k 0 l ∙ g p k l;
 }

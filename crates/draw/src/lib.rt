@@ -1,7 +1,7 @@
 // Drawing an accepted record. What the record decides is decided before the first row; then each row fetches its source pixels
 // and mask bits, and one loop saves the old pixels and writes the new ones. The buffers hold one row.
 ghost use mathlib.Core.Path.{_≡_};
-ghost use mathlib.Core.Bool.{false};
+ghost use mathlib.Core.Bool.{true};
 ghost use Prim.Native.Nat.{ℕ, _+_, _*_, _≤_, _<_};
 ghost use lib.ListN.{length, getD};
 ghost use lib.Seq.{sets};
@@ -9,48 +9,43 @@ ghost use Rattle.words.specs.Bytes.{magnitude32, signed32};
 ghost use Rattle.pixel.specs.Place.{maskPixel};
 ghost use Rattle.pixel.specs.Widen.{Widens};
 ghost use Rattle.sample.specs.At.{Colours};
-ghost use Rattle.emr.specs.Numbers.{absent};
-ghost use Rattle.judge.specs.declared.Checked.the-variants.{Accepted};
-ghost use Rattle.judge.specs.Judged.{headerIn, checkOf};
+ghost use Rattle.judge.specs.Good.{Good};
 ghost use Rattle.picture.specs.Palette.{picturePalette};
 ghost use Rattle.region.specs.Target.{placesIn, targetOf};
 ghost use Rattle.journal.specs.Drawing.{drawn};
 ghost use Rattle.journal.specs.Records.{stride, bytesOf, saved};
-ghost use Rattle.meaning.specs.Sampling.{sourceColumn};
-ghost use Rattle.meaning.specs.Reading.{planOf};
-ghost use Rattle.meaning.specs.Meaning.{meaningIn, boundsOf, paintOn};
+ghost use Rattle.meaning.specs.Sampling.{isFormat1, sourceColumn};
+ghost use Rattle.meaning.specs.Reading.{masksIn};
+ghost use Rattle.meaning.specs.Meaning.{meaningIn, paintOn};
 ghost use Rattle.draw.specs.Ready.{Lies, Mapped};
-use emr::Numbers;
-use meaning::Plan;
+use judge::Record;
 use region::Rectangle;
 use region::Target;
+use sample::Masks;
 
 // The most columns that a row has.
 const MOST: usize = 4096;
 
 // The columns of the source that the target reads, if there is a source.
-fn source_columns(s: &[u8], n: Numbers, index: u32, out: &mut [u32], count: usize)
-    requires { ⌜ (Accepted n ≡ checkOf (now s)) × (count ≤ length (now out)) × (index + count ≤ magnitude32 (n .cx)) ⌝ }
-    ensures { λ _. ⌜ (length (now (out .exit)) ≡ length (now (out .entry))) × (absent (n .source) ≡ false → (k : ℕ) → k < count → getD (now (out .exit)) k 0 ≡ sourceColumn (n .source .x) (n .«cx_src») (n .cx) (index + k)) ⌝ }
+fn source_columns(s: &[u8], r: Record, index: u32, out: &mut [u32], count: usize)
+    requires { ⌜ Good (length (now s)) r × (count ≤ length (now out)) × (index + count ≤ magnitude32 (r .cx)) ⌝ }
+    ensures { λ _. ⌜ (length (now (out .exit)) ≡ length (now (out .entry))) × (r .source .present ≡ true → (k : ℕ) → k < count → getD (now (out .exit)) k 0 ≡ sourceColumn (r .source .x) (r .«cx_src») (r .cx) (index + k)) ⌝ }
 {
-    let p = n.source;
-    if emr::fields::is_absent(p) {
-        return;
+    let p = r.source;
+    if p.present {
+        meaning::columns::of_source(p.x, r.cx_src, r.cx, index, out, count);
     }
-    meaning::columns::of_source(p.x, n.cx_src, n.cx, index, out, count);
 }
 
 // The columns of the mask that the target reads, if there is a mask.
-fn mask_columns(s: &[u8], n: Numbers, width: u32, index: u32, out: &mut [u32], count: usize)
-    requires { ⌜ (Accepted n ≡ checkOf (now s)) × (count ≤ length (now out)) × (index + count ≤ magnitude32 (n .cx)) ⌝ }
-    requires { ⌜ width ≡ headerIn (now s) (n .mask) .width ⌝ }
-    ensures { λ _. ⌜ (length (now (out .exit)) ≡ length (now (out .entry))) × (absent (n .mask) ≡ false → (k : ℕ) → k < count → getD (now (out .exit)) k 0 ≡ maskPixel (signed32 (n .mask .x)) (index + k) width) ⌝ }
+fn mask_columns(s: &[u8], r: Record, index: u32, out: &mut [u32], count: usize)
+    requires { ⌜ Good (length (now s)) r × (count ≤ length (now out)) × (index + count ≤ magnitude32 (r .cx)) ⌝ }
+    ensures { λ _. ⌜ (length (now (out .exit)) ≡ length (now (out .entry))) × (r .mask .present ≡ true → (k : ℕ) → k < count → getD (now (out .exit)) k 0 ≡ maskPixel (signed32 (r .mask .x)) (index + k) (r .mask .header .width)) ⌝ }
 {
-    let p = n.mask;
-    if emr::fields::is_absent(p) {
-        return;
+    let p = r.mask;
+    if p.present {
+        meaning::columns::of_mask(p.x, p.header.width, index, out, count);
     }
-    meaning::columns::of_mask(p.x, width, index, out, count);
 }
 
 // Draws the rows of the clipped target, and saves them from record `at` on.
@@ -61,8 +56,8 @@ fn rows(
     journal: &mut [u8],
     at: usize,
     s: &[u8],
-    n: Numbers,
-    plan: Plan,
+    r: Record,
+    masks: Masks,
     table: &[u8; 510],
     palette: &[u32; 256],
     columns: &[u32],
@@ -70,14 +65,15 @@ fn rows(
     t: Target,
     brush: u32,
 )
-    requires { ⌜ (Accepted n ≡ checkOf (now s)) × (plan ≡ planOf (now s) n) × Widens (now table) ⌝ }
-    requires { ⌜ (now palette ≡ picturePalette (now s) (n .source)) × Colours (now palette) ⌝ }
-    requires { ⌜ Lies width height n t × Mapped (now s) n t (now columns) (now spots) ⌝ }
+    requires { ⌜ Good (length (now s)) r × (masks ≡ masksIn (r .source .header) (isFormat1 (r .action))) × Widens (now table) ⌝ }
+    requires { ⌜ (now palette ≡ picturePalette (now s) (r .source)) × Colours (now palette) ⌝ }
+    requires { ⌜ Lies width height r t × Mapped r t (now columns) (now spots) ⌝ }
     requires { ⌜ (length (now surface) ≡ width * height) × ((at + t .columns .count * t .rows .count) * stride ≤ length (now journal)) ⌝ }
-    ensures { λ _. ⌜ now (surface .exit) ≡ drawn width (paintOn t (meaningIn (now (s .entry)) n) brush) (placesIn t) (now (surface .entry)) ⌝ }
-    ensures { λ _. ⌜ now (journal .exit) ≡ sets (now (journal .entry)) (at * stride) (bytesOf (saved width (paintOn t (meaningIn (now (s .entry)) n) brush) (placesIn t) (now (surface .entry)))) ⌝ }
+    ensures { λ _. ⌜ now (surface .exit) ≡ drawn width (paintOn t (meaningIn (now (s .entry)) r) brush) (placesIn t) (now (surface .entry)) ⌝ }
+    ensures { λ _. ⌜ now (journal .exit) ≡ sets (now (journal .entry)) (at * stride) (bytesOf (saved width (paintOn t (meaningIn (now (s .entry)) r) brush) (placesIn t) (now (surface .entry)))) ⌝ }
 {
-    let rule = meaning::rule(n.kind, n.operation, brush);
+    let action = r.action;
+    let rule = meaning::rule(action, brush);
     let x = t.columns.at as u32;
     let count = columns.len();
     let mut colours = [0u32; MOST];
@@ -89,16 +85,15 @@ fn rows(
         let y = (t.rows.at + k) as u32;
         meaning::rows::of_source(
             s,
-            n,
-            plan.source,
-            plan.masks,
+            r,
+            masks,
             table,
             palette,
             columns,
             j,
             &mut colours,
         );
-        meaning::rows::of_mask(s, n, plan.mask, spots, j, &mut bits);
+        meaning::rows::of_mask(s, r, spots, j, &mut bits);
         paint::row(
             surface,
             width,
@@ -123,28 +118,29 @@ pub fn clipped(
     journal: &mut [u8],
     at: usize,
     s: &[u8],
-    n: Numbers,
+    r: Record,
     clip: Rectangle,
     t: Target,
     brush: u32,
 )
-    requires { ⌜ (Accepted n ≡ checkOf (now s)) × (t ≡ targetOf width height clip (boundsOf n) (n .x) (n .y) (n .cx) (n .cy)) ⌝ }
+    requires { ⌜ Good (length (now s)) r × (t ≡ targetOf width height clip (r .bounds) (r .x) (r .y) (r .cx) (r .cy)) ⌝ }
     requires { ⌜ (width ≤ 4096) × (length (now surface) ≡ width * height) × ((at + t .columns .count * t .rows .count) * stride ≤ length (now journal)) ⌝ }
-    ensures { λ _. ⌜ now (surface .exit) ≡ drawn width (paintOn t (meaningIn (now (s .entry)) n) brush) (placesIn t) (now (surface .entry)) ⌝ }
-    ensures { λ _. ⌜ now (journal .exit) ≡ sets (now (journal .entry)) (at * stride) (bytesOf (saved width (paintOn t (meaningIn (now (s .entry)) n) brush) (placesIn t) (now (surface .entry)))) ⌝ }
+    ensures { λ _. ⌜ now (surface .exit) ≡ drawn width (paintOn t (meaningIn (now (s .entry)) r) brush) (placesIn t) (now (surface .entry)) ⌝ }
+    ensures { λ _. ⌜ now (journal .exit) ≡ sets (now (journal .entry)) (at * stride) (bytesOf (saved width (paintOn t (meaningIn (now (s .entry)) r) brush) (placesIn t) (now (surface .entry)))) ⌝ }
 {
     if t.columns.count == 0 {
         return;
     }
-    let plan = meaning::planned(s, n);
+    let action = r.action;
+    let masks = meaning::masks(r.source.header, meaning::is_format1(action));
     let table = pixel::widen::table();
-    let palette = picture::palette(s, n.source);
+    let palette = picture::palette(s, r.source);
     let index = t.columns.index as u32;
     let count = t.columns.count as usize;
     let mut columns = [0u32; MOST];
-    source_columns(s, n, index, &mut columns, count);
+    source_columns(s, r, index, &mut columns, count);
     let mut spots = [0u32; MOST];
-    mask_columns(s, n, plan.mask.width, index, &mut spots, count);
+    mask_columns(s, r, index, &mut spots, count);
     rows(
         surface,
         width,
@@ -152,8 +148,8 @@ pub fn clipped(
         journal,
         at,
         s,
-        n,
-        plan,
+        r,
+        masks,
         &table,
         &palette,
         &columns[..count],

@@ -1,11 +1,10 @@
 -- The table of byte places: a type that is not listed, and how far its places reach. Assumes nothing.
 use mathlib.Core.Path.{_≡_, sym, subst, ap, _∙_}
 use mathlib.Core.List.{List}
-use mathlib.Core.Bool.{Bool, true, false}
+use mathlib.Core.Bool.{Bool, true, false, cond}
 use Prim.Native.Nat.{ℕ, _≤_}
 use lib.Dec.{eqb, lit≤}
 use borrow.Author.Tests.{ne-eqb}
-use Rattle.words.specs.Choice.{pick}
 use Rattle.emr.specs.declared.Places.{Places}
 use Rattle.emr.specs.declared.Numbers.{Numbers}
 use Rattle.emr.specs.Places.{placesOf}
@@ -26,16 +25,16 @@ pub record Near (f : Places) : Type 0 where
   pub parts : f .parts ≤ 128
   pub fixed : f .fixed ≤ 128
 
-pick-near : (b : Bool) {f g : Places} → Near f → Near g → Near (pick b f g)
-pick-near true p q = p
-pick-near false p q = q
+cond-near : (b : Bool) {f g : Places} → Near f → Near g → Near (cond b f g)
+cond-near true p q = p
+cond-near false p q = q
 
 pub near : (t : ℕ) → Near (placesOf t)
 unfolding placesOf
 near t =
-    pick-near (eqb t 0x72) (record { extent = lit≤ tt; corner = lit≤ tt; extent-src = lit≤ tt; transform = lit≤ tt; parts = lit≤ tt; fixed = lit≤ tt })
-    (pick-near (eqb t 0x4E) (record { extent = lit≤ tt; corner = lit≤ tt; extent-src = lit≤ tt; transform = lit≤ tt; parts = lit≤ tt; fixed = lit≤ tt })
-    (pick-near (eqb t 0x51) (record { extent = lit≤ tt; corner = lit≤ tt; extent-src = lit≤ tt; transform = lit≤ tt; parts = lit≤ tt; fixed = lit≤ tt })
+    cond-near (eqb t 0x72) (record { extent = lit≤ tt; corner = lit≤ tt; extent-src = lit≤ tt; transform = lit≤ tt; parts = lit≤ tt; fixed = lit≤ tt })
+    (cond-near (eqb t 0x4E) (record { extent = lit≤ tt; corner = lit≤ tt; extent-src = lit≤ tt; transform = lit≤ tt; parts = lit≤ tt; fixed = lit≤ tt })
+    (cond-near (eqb t 0x51) (record { extent = lit≤ tt; corner = lit≤ tt; extent-src = lit≤ tt; transform = lit≤ tt; parts = lit≤ tt; fixed = lit≤ tt })
     (record { extent = lit≤ tt; corner = lit≤ tt; extent-src = lit≤ tt; transform = lit≤ tt; parts = lit≤ tt; fixed = lit≤ tt })))
 
 pub near-is : {f : Places} (t : ℕ) → f ≡ placesOf t → Near f

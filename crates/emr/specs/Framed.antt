@@ -13,36 +13,36 @@ use Rattle.emr.specs.Transform.{transformOf, isIdentity}
 use Rattle.emr.specs.Numbers.{absent}
 
 -- 3: "record under 8 bytes or over 16,777,216"
-unfoldable pub badLength : List ℕ → Bool
-badLength s = ltb (length s) 8 || ltb 16777216 (length s)
+abbrev pub badLength : (len : ℕ) → Bool
+badLength len = ltb len 8 || ltb 16777216 len
 
 -- 4: "type not listed"
-unfoldable pub badType : (type : ℕ) → Bool
+abbrev pub badType : (type : ℕ) → Bool
 badType type = eqb (placesOf type .fixed) 0
 
 -- 5: "Size not the lent length, not a multiple of 4, or below the fixed part"
-unfoldable pub badSize : (size len fixed : ℕ) → Bool
+abbrev pub badSize : (size len fixed : ℕ) → Bool
 badSize size len fixed = not (eqb size len) || not (eqb (size % 4) 0) || ltb size fixed
 
 -- 3 to 5
 unfoldable pub frameStatus : List ℕ → ℕ
 frameStatus s =
-    given 3 (badLength s)
+    given 3 (badLength (length s))
     (given 4 (badType (le32 s 0))
     (given 5 (badSize (le32 s 4) (length s) (placesOf (le32 s 0) .fixed)) 0))
 
 -- 6: "a present picture's part begins before the fixed part's end or ends past Size"
-unfoldable pub outside : (len fixed at size : ℕ) → Bool
+abbrev pub outside : (len fixed at size : ℕ) → Bool
 outside len fixed at size = ltb at fixed || ltb len (at + size)
 
-unfoldable pub badParts : (len fixed : ℕ) → Picture → Bool
+abbrev pub badParts : (len fixed : ℕ) → Picture → Bool
 badParts len fixed p = not (absent p) && (outside len fixed (p .bmi) (p .«bmi_len») || outside len fixed (p .bits) (p .«bits_len»))
 
 -- 7: "XformSrc not the identity, or a present picture's usage not 0"
-unfoldable pub badTransform : List ℕ → (at : ℕ) → Bool
+abbrev pub badTransform : List ℕ → (at : ℕ) → Bool
 badTransform s at = not (eqb at 0) && not (isIdentity (transformOf s at))
 
-unfoldable pub badUsage : Picture → Bool
+abbrev pub badUsage : Picture → Bool
 badUsage p = not (absent p) && not (eqb (p .usage) 0)
 
 -- 6 and 7, each over both pictures

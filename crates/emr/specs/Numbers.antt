@@ -1,10 +1,9 @@
 -- A record's fixed part as numbers, signed ones as written. Definitions only. A byte past the record's end reads as 0.
 use Prim.Native.Nat.{ℕ, _+_}
-use mathlib.Core.Bool.{Bool, true, false, not, _&&_}
+use mathlib.Core.Bool.{Bool, true, false, cond, not, _&&_}
 use mathlib.Core.List.{List}
 use lib.ListN.{take, drop}
 use lib.Dec.{eqb}
-use Rattle.words.specs.Choice.{pick}
 use Rattle.words.specs.Bytes.{le32}
 use Rattle.emr.specs.declared.Places.{Places}
 use Rattle.emr.specs.declared.Picture.{Picture}
@@ -32,7 +31,7 @@ absent p = eqb (p .bmi) 0 && eqb (p .«bmi_len») 0 && eqb (p .bits) 0 && eqb (p
 
 -- a type that has no mask: none
 unfoldable pub maskPictureOf : List ℕ → (mask : ℕ) → Picture
-maskPictureOf s mask = pick (eqb mask 0) noPicture (pictureOf s 100 108 112)
+maskPictureOf s mask = cond (eqb mask 0) noPicture (pictureOf s 100 108 112)
 
 abbrev pub numbersAt : List ℕ → Places → Numbers
 numbersAt s f = record {

@@ -1,8 +1,7 @@
 -- Document 01, "Byte places", as one table: a row for each type, 0 where the type has no such field. Definitions only.
 use Prim.Native.Nat.{ℕ}
-use mathlib.Core.Bool.{Bool, true, false}
+use mathlib.Core.Bool.{Bool, true, false, cond}
 use lib.Dec.{eqb}
-use Rattle.words.specs.Choice.{pick}
 use Rattle.emr.specs.declared.Places.{Places}
 
 abbrev places : (extent operation corner extentSrc transform usage parts mask fixed : ℕ) → Places
@@ -22,7 +21,7 @@ places extent operation corner extentSrc transform usage parts mask fixed = reco
 -- cxDest · blend/ROP4/ROP · xSrc · cxSrc · XformSrc · UsageSrc · offBmi .. cbBits · xMask .. · end of fixed part
 unfoldable pub placesOf : (type : ℕ) → Places
 placesOf type =
-    pick (eqb type 0x72) (places 32 40 44 100 52 80 84 0 108)
-    (pick (eqb type 0x4E) (places 32 40 44 32 52 80 84 100 128)
-    (pick (eqb type 0x51) (places 72 68 32 40 0 64 48 0 80)
+    cond (eqb type 0x72) (places 32 40 44 100 52 80 84 0 108)
+    (cond (eqb type 0x4E) (places 32 40 44 32 52 80 84 100 128)
+    (cond (eqb type 0x51) (places 72 68 32 40 0 64 48 0 80)
     (places 0 0 0 0 0 0 0 0 0)))

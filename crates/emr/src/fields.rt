@@ -86,12 +86,5 @@ pub fn read(s: &[u8]) -> Numbers
 pub fn is_absent(p: Picture) -> bool
     ensures { λ r. ⌜ r ≡ absent p ⌝ }
 {
-    if p.bmi == 0 {
-        if p.bmi_len == 0 {
-            if p.bits == 0 {
-                return p.bits_len == 0;
-            }
-        }
-    }
-    false
+    (p.bmi == 0) & (p.bmi_len == 0) & (p.bits == 0) & (p.bits_len == 0)
 }

@@ -1,6 +1,6 @@
 -- A call of a list as bytes: the ways through the code that measures it and makes it, test by test. Assumes nothing.
 use mathlib.Core.Path.{_≡_, refl, sym, ap, _∙_}
-use mathlib.Core.Bool.{Bool, true, false, _&&_}
+use mathlib.Core.Bool.{Bool, true, false, cond, _&&_}
 use mathlib.Core.List.{List, [], _∷_}
 use Prim.Native.Nat.{ℕ, _+_, _-_, _≤_, _<_}
 use native.Mathlib.Omega.{arith}
@@ -10,8 +10,7 @@ use lib.Seq.{sets}
 use lib.Dec.{eqb, leb}
 use borrow.Author.Tests.{eq-eqb, ne-eqb, le-leb, lt-leb, leb-true}
 use Rattle.words.specs.Bytes.{le32}
-use Rattle.words.specs.Choice.{pick}
-use Rattle.words.proofs.ChoiceLaws.{picked-true, picked-false, and-true, and-false, and-both}
+use Rattle.words.proofs.ChoiceLaws.{cond-true, cond-false, and-by-second, and-by-first, and-both}
 use Rattle.region.specs.declared.Rectangle.{Rectangle}
 use Rattle.region.specs.Written.{rectangleAt}
 use Rattle.lent.specs.Lent.{Lent, lent, Outcome}
@@ -23,7 +22,7 @@ use Rattle.history.specs.Lists.{made}
 use Rattle.history.specs.Run.{playAt, padded, callLength, callAt}
 use Rattle.history.specs.Stepped.{Stepped}
 
-picked-some : (b : Bool) (x : ℕ) → (pick b x 0 ≡ 0 → ⊥) → (b ≡ true) × (pick b x 0 ≡ x)
+picked-some : (b : Bool) (x : ℕ) → (cond b x 0 ≡ 0 → ⊥) → (b ≡ true) × (cond b x 0 ≡ x)
 picked-some true x s = (refl, refl)
 picked-some false x s = absurd (s refl)
 
@@ -40,17 +39,17 @@ module _ (l : List ℕ) (at : ℕ) where
 
   -- ---- the length of a call, by its first number
 
-  play-length : le32 l at ≡ 1 → callLength l at ≡ pick fits whole 0
+  play-length : le32 l at ≡ 1 → callLength l at ≡ cond fits whole 0
   unfolding callLength
-  play-length e = picked-true (eqb (le32 l at) 1) _ _ (eq-eqb (le32 l at) 1 e)
+  play-length e = cond-true (eqb (le32 l at) 1) _ _ (eq-eqb (le32 l at) 1 e)
 
-  other-length : (le32 l at ≡ 1 → ⊥) → callLength l at ≡ pick (eqb (le32 l at) 2 && fitsUndo) 4 0
+  other-length : (le32 l at ≡ 1 → ⊥) → callLength l at ≡ cond (eqb (le32 l at) 2 && fitsUndo) 4 0
   unfolding callLength
-  other-length e = picked-false (eqb (le32 l at) 1) _ _ (ne-eqb (le32 l at) 1 e)
+  other-length e = cond-false (eqb (le32 l at) 1) _ _ (ne-eqb (le32 l at) 1 e)
 
   -- ---- the ways through `call_length`
 
-  none : (b c : Bool) → 0 ≡ pick b (pick false whole 0) (pick (c && false) 4 0)
+  none : (b c : Bool) → 0 ≡ cond b (cond false whole 0) (cond (c && false) 4 0)
   none true c = refl
   none false true = refl
   none false false = refl
@@ -61,34 +60,34 @@ module _ (l : List ℕ) (at : ℕ) where
       let f : fits ≡ false = lt-leb (at + whole) (length l) (omega arith) in
       let u : fitsUndo ≡ false = lt-leb (at + 4) (length l) h in
       none (eqb (le32 l at) 1) (eqb (le32 l at) 2)
-      ∙ (λ i. pick (eqb (le32 l at) 1) (pick (sym f i) whole 0) (pick (eqb (le32 l at) 2 && sym u i) 4 0))
+      ∙ (λ i. cond (eqb (le32 l at) 1) (cond (sym f i) whole 0) (cond (eqb (le32 l at) 2 && sym u i) 4 0))
 
   pub length-undo : le32 l at ≡ 2 → at + 4 ≤ length l → 4 ≡ callLength l at
   length-undo e h =
       sym (other-length (omega arith)
-      ∙ picked-true (eqb (le32 l at) 2 && fitsUndo) 4 0 (and-true (eqb (le32 l at) 2) fitsUndo (eq-eqb (le32 l at) 2 e) (le-leb (at + 4) (length l) h)))
+      ∙ cond-true (eqb (le32 l at) 2 && fitsUndo) 4 0 (and-by-second (eqb (le32 l at) 2) fitsUndo (eq-eqb (le32 l at) 2 e) (le-leb (at + 4) (length l) h)))
 
   pub length-other : (k : ℕ) → k ≡ le32 l at → (k ≡ 2 → ⊥) → (k ≡ 1 → ⊥) → 0 ≡ callLength l at
   length-other k e a b =
       sym (other-length (λ q. b (e ∙ q))
-      ∙ picked-false (eqb (le32 l at) 2 && fitsUndo) 4 0 (and-false (eqb (le32 l at) 2) fitsUndo (ne-eqb (le32 l at) 2 (λ q. a (e ∙ q)))))
+      ∙ cond-false (eqb (le32 l at) 2 && fitsUndo) 4 0 (and-by-first (eqb (le32 l at) 2) fitsUndo (ne-eqb (le32 l at) 2 (λ q. a (e ∙ q)))))
 
   pub length-long : le32 l at ≡ 1 → length l < at + whole → 0 ≡ callLength l at
-  length-long e h = sym (play-length e ∙ picked-false fits whole 0 (lt-leb (at + whole) (length l) h))
+  length-long e h = sym (play-length e ∙ cond-false fits whole 0 (lt-leb (at + whole) (length l) h))
 
   pub length-play : (k n : ℕ) → k ≡ le32 l at → k ≡ 1 → n ≡ le32 l (at + 28) → at ≤ length l → 32 + padded n ≤ length l - at
       → 32 + padded n ≡ callLength l at
   length-play k n e z q a h =
       let p : 32 + padded n ≡ whole = ap (λ (x : ℕ). 32 + padded x) q in
-      p ∙ sym (play-length (sym e ∙ z) ∙ picked-true fits whole 0 (le-leb (at + whole) (length l) (omega arith)))
+      p ∙ sym (play-length (sym e ∙ z) ∙ cond-true fits whole 0 (le-leb (at + whole) (length l) (omega arith)))
 
   -- ---- where a call stands, it stands whole
 
   pub play-inside : (k : ℕ) → k ≡ le32 l at → k ≡ 1 → (callLength l at ≡ 0 → ⊥) → at + whole ≤ length l
   play-inside k e z s = leb-true (at + whole) (length l) (picked-some fits whole (λ q. s (play-length (sym e ∙ z) ∙ q)) .0)
 
-  either-inside : (b c : Bool) → (pick b (pick fits whole 0) (pick (c && fitsUndo) 4 0) ≡ 0 → ⊥)
-      → at + pick b (pick fits whole 0) (pick (c && fitsUndo) 4 0) ≤ length l
+  either-inside : (b c : Bool) → (cond b (cond fits whole 0) (cond (c && fitsUndo) 4 0) ≡ 0 → ⊥)
+      → at + cond b (cond fits whole 0) (cond (c && fitsUndo) 4 0) ≤ length l
   either-inside true c s = let p = picked-some fits whole s in omega (arith, p .1, leb-true (at + whole) (length l) (p .0))
   either-inside false c s =
       let p = picked-some (c && fitsUndo) 4 s in omega (arith, p .1, leb-true (at + 4) (length l) (and-both c fitsUndo (p .0) .1))

@@ -64,7 +64,7 @@ framed w h s j b e =
       high = p .high .1;
       most = p .most;
       pixels = b;
-      passes = λ used le. sym (limits-none w h (length s) (length j) used (p .wide .0) (p .wide .1) (p .high .0) (p .high .1) (p .pixels-are) (p .whole) (p .most) le);
+      passes = λ used le. sym (limits-none (record { wide = p .wide; high = p .high; pixels-are = p .pixels-are; whole = p .whole; most = p .most; enough = le }));
     }
 
 -- ---- the link, and one call

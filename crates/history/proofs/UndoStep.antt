@@ -7,7 +7,7 @@ use native.Mathlib.Omega.{arith}
 use lib.Dec.{eqb, ltb}
 use lib.ListN.{length, take, drop, length-append}
 use borrow.Author.Tests.{le-ltb, eq-eqb, ne-eqb}
-use Rattle.words.proofs.ChoiceLaws.{or-false}
+use Rattle.words.proofs.ChoiceLaws.{or-by-second}
 use Rattle.journal.specs.All.{All}
 use Rattle.journal.specs.Records.{stride, Entry, bytesOf, saved, closing, entriesAt}
 use Rattle.journal.specs.Restoring.{restored, anyOff}
@@ -93,8 +93,8 @@ module _ (w h : ℕ) (start : List ℕ) (n : ℕ) (p : Play) (below : List Play)
   unfolding badTop held
   good-top =
       let u : named m ≤ m .used - 1 = omega (arith, used-is, closes .1) in
-      or-false (not (eqb (last m .first) 0xFFFFFFFF) || ltb (m .used - 1) (named m)) _
-      (or-false (not (eqb (last m .first) 0xFFFFFFFF)) _ (ap not (eq-eqb (last m .first) 0xFFFFFFFF (closes .0))) (le-ltb (m .used - 1) (named m) u))
+      or-by-second (not (eqb (last m .first) 0xFFFFFFFF) || ltb (m .used - 1) (named m)) _
+      (or-by-second (not (eqb (last m .first) 0xFFFFFFFF)) _ (ap not (eq-eqb (last m .first) 0xFFFFFFFF (closes .0))) (le-ltb (m .used - 1) (named m) u))
       (ap (anyOff w h) top-is ∙ saved-on w h (work w h p .paint) (work w h p .places) under (places-on w h p))
 
   undo-is : undoOf w h m ≡ outcome 0 (count w h p) (undone w m)

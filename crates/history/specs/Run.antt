@@ -3,13 +3,13 @@
 -- The bytes are 32-bit numbers: how many calls, then the calls, and nothing behind them. A play: 1, left, top, right, bottom, brush, a
 -- number that is not looked at, the record's length, the record, and bytes up to the next multiple of 4. An undo: 2.
 use Prim.Native.Nat.{ℕ, zero, suc, _+_, _*_, _/_}
-use mathlib.Core.Bool.{Bool, not, _&&_}
+use mathlib.Core.Bool.{Bool, cond, not, _&&_}
 use mathlib.Core.List.{List, [], _∷_}
 use lib.ListN.{length, take, drop}
 use lib.Seq.{sets}
 use lib.Dec.{eqb, leb, ltb}
 use Rattle.words.specs.Bytes.{le32}
-use Rattle.words.specs.Choice.{pick, given, orElse}
+use Rattle.words.specs.Choice.{given, orElse}
 use Rattle.region.specs.Written.{rectangleAt}
 use Rattle.lent.specs.Lent.{lent, lentStatus, records}
 use Rattle.player.specs.Calls.{Play, playWith}
@@ -23,15 +23,15 @@ padded n = (n + 3) / 4 * 4
 -- the length of the call at a place of the list, and 0 where none stands there whole
 unfoldable pub callLength : (list : List ℕ) (at : ℕ) → ℕ
 callLength l at =
-    pick (eqb (le32 l at) 1) (pick (leb (at + (32 + padded (le32 l (at + 28)))) (length l)) (32 + padded (le32 l (at + 28))) 0)
-    (pick (eqb (le32 l at) 2 && leb (at + 4) (length l)) 4 0)
+    cond (eqb (le32 l at) 1) (cond (leb (at + (32 + padded (le32 l (at + 28)))) (length l)) (32 + padded (le32 l (at + 28))) 0)
+    (cond (eqb (le32 l at) 2 && leb (at + 4) (length l)) 4 0)
 
 abbrev pub playAt : (list : List ℕ) (at : ℕ) → Play
 playAt l at = playWith (take (le32 l (at + 28)) (drop (at + 32) l)) (rectangleAt l (at + 4)) (le32 l (at + 20))
 
 -- the call at a place
 unfoldable pub callAt : (list : List ℕ) (at : ℕ) → Call
-callAt l at = pick (eqb (le32 l at) 1) (playing (playAt l at)) undoing
+callAt l at = cond (eqb (le32 l at) 1) (playing (playAt l at)) undoing
 
 -- n calls from a place on, and nothing behind them
 unfoldable pub wellFormed : (list : List ℕ) (at n : ℕ) → Bool

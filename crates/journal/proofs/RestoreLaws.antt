@@ -10,7 +10,7 @@ use lib.Arith.{digits-lt}
 use lib.Dec.{leb}
 use lib.ListN.{length, set, length-set}
 use borrow.Author.Tests.{le-leb, lt-leb, leb-false}
-use Rattle.words.proofs.ChoiceLaws.{or-true, or-false, or-none}
+use Rattle.words.proofs.ChoiceLaws.{or-by-first, or-by-second, or-none}
 use Rattle.journal.specs.Drawing.{index}
 use Rattle.journal.specs.Records.{Entry, entryAt, entriesAt}
 use Rattle.journal.specs.Restoring.{restored, anyOff}
@@ -39,7 +39,7 @@ module _ (w h : ℕ) (j : List ℕ) (from n : ℕ) where
         ∙ (λ t. leb w (sym e t) || leb h (entryAt j i .second) || anyOff w h (entriesAt j (m t) (from + n - (i + 1))))
 
     pub tested-column : w ≤ x → true ≡ anyOff w h (entriesAt j from n)
-    tested-column a = sym (first-decides ∙ or-true _ _ (or-true _ _ (le-leb w x a)))
+    tested-column a = sym (first-decides ∙ or-by-first _ _ (or-by-first _ _ (le-leb w x a)))
 
     module _ (y : ℕ) (a : x < w) (f : y ≡ entryAt j i .second) where
       second-decides : anyOff w h (entriesAt j from n) ≡ (leb h y || anyOff w h (entriesAt j (i + 1) (from + n - (i + 1))))
@@ -48,10 +48,10 @@ module _ (w h : ℕ) (j : List ℕ) (from n : ℕ) where
           ∙ (λ t. lt-leb w x a t || leb h (sym f t) || anyOff w h (entriesAt j (i + 1) (from + n - (i + 1))))
 
       pub tested-row : h ≤ y → true ≡ anyOff w h (entriesAt j from n)
-      tested-row b = sym (second-decides ∙ or-true _ _ (le-leb h y b))
+      tested-row b = sym (second-decides ∙ or-by-first _ _ (le-leb h y b))
 
       pub tested-one : y < h → Tested w h j from n (i + 1)
-      tested-one b = record { below = omega arith; same = sym (second-decides ∙ or-false _ _ (lt-leb h y b) refl) }
+      tested-one b = record { below = omega arith; same = sym (second-decides ∙ or-by-second _ _ (lt-leb h y b) refl) }
 
   pub tested-all : (i : ℕ) → Tested w h j from n i → from + n ≤ i → false ≡ anyOff w h (entriesAt j from n)
   unfolding anyOff entriesAt

@@ -11,7 +11,7 @@ use lib.Dec.{leb}
 use borrow.Author.Tests.{lt-leb}
 use Rattle.words.specs.Bytes.{le32, bytes32}
 use Rattle.words.proofs.ByteLaws.{le-drop, le32-bytes32}
-use Rattle.words.proofs.ChoiceLaws.{or-false}
+use Rattle.words.proofs.ChoiceLaws.{or-by-second}
 use Rattle.region.specs.Target.{Place}
 use Rattle.journal.specs.All.{All}
 use Rattle.journal.specs.Drawing.{index, Paint, dot, drawn}
@@ -38,8 +38,8 @@ pub saved-on : (w h : ℕ) (f : Paint) (ps : List Place) (s : List ℕ) → All 
 unfolding saved anyOff
 saved-on w h f [] s on = refl
 saved-on w h f (p ∷ ps) s on =
-    or-false (leb w (p .x) || leb h (p .y)) _
-    (or-false (leb w (p .x)) (leb h (p .y)) (lt-leb w (p .x) (on .0 .column)) (lt-leb h (p .y) (on .0 .line)))
+    or-by-second (leb w (p .x) || leb h (p .y)) _
+    (or-by-second (leb w (p .x)) (leb h (p .y)) (lt-leb w (p .x) (on .0 .column)) (lt-leb h (p .y) (on .0 .line)))
     (saved-on w h f ps (dot w f (p .x) (p .y) s) (on .1))
 
 -- ---- 32-bit numbers

@@ -1,3 +1,3 @@
-pub mod GeometryLaws
+pub mod ActionLaws
 pub mod CheckLaws
 pub mod AcceptedLaws

@@ -1,31 +1,29 @@
 -- Document 01, "Refusals and their order": statuses 8 to 13, and the whole order of 3 to 13. Definitions only.
 use Prim.Native.Nat.{ℕ, zero, suc}
-use mathlib.Core.Bool.{Bool, not, _&&_, _||_}
+use mathlib.Core.Bool.{Bool, cond, not, _&&_, _||_}
 use mathlib.Core.List.{List}
-use Rattle.words.specs.Choice.{pick, given, orElse, lowest}
+use Rattle.words.specs.Choice.{given, orElse, lowest}
 use Rattle.dib.specs.declared.Header.{Header}
-use Rattle.dib.specs.Header.{headerOf, rows}
+use Rattle.dib.specs.Header.{rows}
 use Rattle.dib.specs.Judged.{dibStatus}
 use Rattle.emr.specs.declared.Picture.{Picture}
 use Rattle.emr.specs.declared.Numbers.{Numbers}
-use Rattle.emr.specs.Numbers.{absent, numbersOf, headerPart}
+use Rattle.emr.specs.Numbers.{absent, numbersOf}
 use Rattle.emr.specs.Framed.{frameStatus, partsStatus}
 use Rattle.judge.specs.declared.Checked.{Checked}
 use Rattle.judge.specs.declared.Checked.the-variants.{Accepted, Refused}
+use Rattle.judge.specs.declared.Record.{Record}
+use Rattle.judge.specs.Record.{recordOf, headerIn}
 use Rattle.judge.specs.Operation.{badOperation, badMask}
 use Rattle.judge.specs.Geometry.{badTarget, badSigns, badSource, badCorner}
 
--- the header of a picture; of an absent one all is 0
-abbrev pub headerIn : List ℕ → Picture → Header
-headerIn s p = headerOf (headerPart s p)
-
 -- 8, 9, 10 of a picture, if it is present
-unfoldable pub pictureStatus : List ℕ → Picture → ℕ
-pictureStatus s p = pick (absent p) 0 (dibStatus (headerPart s p) (p .«bits_len»))
+unfoldable pub pictureStatus : Picture → Header → ℕ
+pictureStatus p h = cond (absent p) 0 (dibStatus (p .«bmi_len») h (p .«bits_len»))
 
 -- 8, 9, 10 of both: the lowest number that applies to either
-unfoldable pub dibsStatus : List ℕ → Numbers → ℕ
-dibsStatus s n = lowest (pictureStatus s (n .source)) (pictureStatus s (n .mask))
+unfoldable pub dibsStatus : Numbers → (source mask : Header) → ℕ
+dibsStatus n source mask = lowest (pictureStatus (n .source) source) (pictureStatus (n .mask) mask)
 
 -- 12
 unfoldable pub badGeometry : Numbers → (source : Header) → Bool
@@ -41,23 +39,25 @@ callStatus n source mask =
     (given 12 (badGeometry n source)
     (given 13 (badMask (n .kind) (absent (n .mask)) mask) 0))
 
+-- 8 to 13
+unfoldable pub statusWith : Numbers → (source mask : Header) → ℕ
+statusWith n source mask = orElse (dibsStatus n source mask) (callStatus n source mask)
+
 -- 3 to 13
 unfoldable pub statusOf : List ℕ → ℕ
 statusOf s =
-    orElse (frameStatus s)
-    (orElse (partsStatus s (numbersOf s))
-    (orElse (dibsStatus s (numbersOf s))
-    (callStatus (numbersOf s) (headerIn s (numbersOf s .source)) (headerIn s (numbersOf s .mask)))))
+    orElse (orElse (frameStatus s) (partsStatus s (numbersOf s)))
+    (statusWith (numbersOf s) (headerIn s (numbersOf s .source)) (headerIn s (numbersOf s .mask)))
 
--- a record is accepted with its numbers, or refused with its status
-abbrev pub settled : ℕ → Numbers → Checked
-settled zero n = Accepted n
-settled (suc k) n = Refused (suc k)
+-- a record is accepted as one value, or refused with its status
+abbrev pub settled : ℕ → Record → Checked
+settled zero r = Accepted r
+settled (suc k) r = Refused (suc k)
 
 unfoldable pub checkOf : List ℕ → Checked
-checkOf s = settled (statusOf s) (numbersOf s)
+checkOf s = settled (statusOf s) (recordOf s)
 
 -- document 01's number for each case of the answer
 abbrev pub statusIn : Checked → ℕ
-statusIn (Accepted n) = 0
+statusIn (Accepted r) = 0
 statusIn (Refused k) = k

@@ -1,3 +1,5 @@
 pub mod Operation
 pub mod Geometry
+pub mod Record
+pub mod Good
 pub mod Judged

@@ -1,8 +1,7 @@
 -- Document 01: the operation field, and refusals 11 and 13. Definitions only.
 use Prim.Native.Nat.{ℕ, _/_, _%_}
-use mathlib.Core.Bool.{Bool, true, false, not, _&&_, _||_}
+use mathlib.Core.Bool.{Bool, true, false, cond, not, _&&_, _||_}
 use lib.Dec.{eqb, ltb}
-use Rattle.words.specs.Choice.{pick}
 use Rattle.pixel.specs.Raster.{needsSource}
 use Rattle.dib.specs.declared.Header.{Header}
 
@@ -28,23 +27,23 @@ abbrev pub rop : ℕ → ℕ
 rop field = field / 65536 % 256
 
 -- "32 bits and an alpha (BI_RGB or a non-zero alpha mask)"
-unfoldable pub hasAlpha : Header → Bool
+abbrev pub hasAlpha : Header → Bool
 hasAlpha h = eqb (h .bits) 32 && (eqb (h .compression) 0 || not (eqb (h .alpha) 0))
 
 -- "blend operation not 0; format above 1; format 1 without 32 bits and an alpha"
-unfoldable pub badBlend : (field : ℕ) → Header → Bool
+abbrev pub badBlend : (field : ℕ) → Header → Bool
 badBlend field h = not (eqb (blendOperation field) 0) || ltb 1 (alphaFormat field) || eqb (alphaFormat field) 1 && not (hasAlpha h)
 
 -- "source needed ..: 0x72 always; MASKBLT if either byte needs it"
-unfoldable pub sourceNeeded : (kind field : ℕ) → Bool
+abbrev pub sourceNeeded : (kind field : ℕ) → Bool
 sourceNeeded kind field =
-    pick (eqb kind 0x72) true
-    (pick (eqb kind 0x4E) (needsSource (foreground field) || needsSource (background field)) (needsSource (rop field)))
+    eqb kind 0x72
+    || cond (eqb kind 0x4E) (needsSource (foreground field) || needsSource (background field)) (needsSource (rop field))
 
 -- 11
-unfoldable pub badOperation : (kind field : ℕ) (absent : Bool) → Header → Bool
+abbrev pub badOperation : (kind field : ℕ) (absent : Bool) → Header → Bool
 badOperation kind field absent h = eqb kind 0x72 && badBlend field h || absent && sourceNeeded kind field
 
 -- 13: "MASKBLT mask absent or not 1 bit"
-unfoldable pub badMask : (kind : ℕ) (absent : Bool) → Header → Bool
+abbrev pub badMask : (kind : ℕ) (absent : Bool) → Header → Bool
 badMask kind absent h = eqb kind 0x4E && (absent || not (eqb (h .bits) 1))

@@ -6,73 +6,32 @@ use dib::Header;
 fn has_alpha(h: Header) -> bool
     ensures { λ r. ⌜ r ≡ hasAlpha h ⌝ }
 {
-    if h.bits == 32 {
-        if h.compression == 0 {
-            return true;
-        }
-        return h.alpha != 0;
-    }
-    false
+    (h.bits == 32) & ((h.compression == 0) | (h.alpha != 0))
 }
 
 fn bad_blend(field: u32, h: Header) -> bool
     ensures { λ r. ⌜ r ≡ badBlend field h ⌝ }
 {
-    if field % 256 != 0 {
-        return true;
-    }
     let format = field / 16777216;
-    if 1 < format {
-        return true;
-    }
-    if format == 1 {
-        return !has_alpha(h);
-    }
-    false
+    (field % 256 != 0) | (1 < format) | (format == 1) & !has_alpha(h)
 }
 
 fn source_needed(kind: u32, field: u32) -> bool
     ensures { λ r. ⌜ r ≡ sourceNeeded kind field ⌝ }
 {
-    if kind == 0x72 {
-        return true;
-    }
-    let low = (field / 65536 % 256) as u8;
-    if kind == 0x4E {
-        if pixel::raster::needs_source((field / 16777216) as u8) {
-            return true;
-        }
-        return pixel::raster::needs_source(low);
-    }
-    pixel::raster::needs_source(low)
+    let low = pixel::raster::needs_source((field / 65536 % 256) as u8);
+    let high = pixel::raster::needs_source((field / 16777216) as u8);
+    (kind == 0x72) | words::choose(kind == 0x4E, high | low, low)
 }
 
 pub fn bad_operation(kind: u32, field: u32, absent: bool, h: Header) -> bool
     ensures { λ r. ⌜ r ≡ badOperation kind field absent h ⌝ }
 {
-    if kind == 0x72 {
-        if bad_blend(field, h) {
-            return true;
-        }
-        if absent {
-            return source_needed(kind, field);
-        }
-        return false;
-    }
-    if absent {
-        return source_needed(kind, field);
-    }
-    false
+    (kind == 0x72) & bad_blend(field, h) | absent & source_needed(kind, field)
 }
 
 pub fn bad_mask(kind: u32, absent: bool, h: Header) -> bool
     ensures { λ r. ⌜ r ≡ badMask kind absent h ⌝ }
 {
-    if kind == 0x4E {
-        if absent {
-            return true;
-        }
-        return h.bits != 1;
-    }
-    false
+    (kind == 0x4E) & (absent | (h.bits != 1))
 }

@@ -1,8 +1,8 @@
 -- A reading's numbers, as the code puts them in a row. Assumes nothing.
 use mathlib.Core.Path.{_≡_, ap, _∙_}
+use mathlib.Core.Bool.{cond}
 use mathlib.Core.List.{List, [], _∷_}
 use Prim.Native.Nat.{ℕ}
-use Rattle.words.specs.Choice.{pick}
 use Rattle.reading.specs.declared.Reading.{Reading}
 use Rattle.lacrumont.specs.Numbers.{numbersIn}
 
@@ -11,5 +11,5 @@ rowOf r flag =
     r .«header_at» ∷ r .«header_len» ∷ r .«view_at» ∷ r .«view_len» ∷ r .width ∷ r .rows ∷ r .bits ∷ r .compression ∷ flag ∷ r .red ∷ r .green
     ∷ r .blue ∷ r .alpha ∷ []
 
-pub numbers-are : (r q : Reading) (flag : ℕ) → r ≡ q → flag ≡ pick (r .«top_down») 1 0 → (r .status ≡ q .status) × (rowOf r flag ≡ numbersIn q)
+pub numbers-are : (r q : Reading) (flag : ℕ) → r ≡ q → flag ≡ cond (r .«top_down») 1 0 → (r .status ≡ q .status) × (rowOf r flag ≡ numbersIn q)
 numbers-are r q flag e f = (ap (λ (x : Reading). x .status) e, ap (rowOf r) f ∙ ap numbersIn e)

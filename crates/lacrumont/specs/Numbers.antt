@@ -1,9 +1,8 @@
 -- A reading as a row of numbers, for C. Definitions only.
 use Prim.Native.Nat.{ℕ}
-use mathlib.Core.Bool.{Bool, not}
+use mathlib.Core.Bool.{Bool, cond, not}
 use mathlib.Core.List.{List, [], _∷_}
 use lib.Dec.{eqb}
-use Rattle.words.specs.Choice.{pick}
 use Rattle.reading.specs.declared.Reading.{Reading}
 
 -- which picture is asked for: 0 is the source, all else the mask
@@ -13,5 +12,5 @@ asksMask mask = not (eqb mask 0)
 -- all but the status, in the header's order
 abbrev pub numbersIn : Reading → List ℕ
 numbersIn r =
-    r .«header_at» ∷ r .«header_len» ∷ r .«view_at» ∷ r .«view_len» ∷ r .width ∷ r .rows ∷ r .bits ∷ r .compression ∷ pick (r .«top_down») 1 0
+    r .«header_at» ∷ r .«header_len» ∷ r .«view_at» ∷ r .«view_len» ∷ r .width ∷ r .rows ∷ r .bits ∷ r .compression ∷ cond (r .«top_down») 1 0
     ∷ r .red ∷ r .green ∷ r .blue ∷ r .alpha ∷ []

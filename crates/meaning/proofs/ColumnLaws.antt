@@ -6,7 +6,7 @@ use native.Mathlib.Omega.{arith}
 use lib.Dec.{leb, ltb}
 use borrow.Author.Tests.{le-leb, lt-leb, leb-true, leb-false, le-ltb, lt-ltb}
 use Rattle.words.specs.Bytes.{negative32, magnitude32}
-use Rattle.words.proofs.ChoiceLaws.{picked-true, picked-false}
+use Rattle.words.proofs.ChoiceLaws.{cond-true, cond-false}
 use Rattle.pixel.specs.Place.{sourcePlace}
 use Rattle.pixel.proofs.PlaceLaws.{column-lt}
 use Rattle.meaning.specs.Sampling.{sourceStart, mirrored, sourceColumn}
@@ -16,12 +16,12 @@ use Rattle.meaning.specs.Sampling.{sourceStart, mirrored, sourceColumn}
 module _ (x cx : ℕ) where
   pub start-plain : cx < 2147483648 → x ≡ sourceStart x cx
   unfolding sourceStart
-  start-plain h = sym (picked-false (negative32 cx) _ x (lt-leb 2147483648 cx h))
+  start-plain h = sym (cond-false (negative32 cx) _ x (lt-leb 2147483648 cx h))
 
   module _ (h : 2147483648 ≤ cx) (m : ℕ) (e : m ≡ magnitude32 cx) where
     before-corner : x - m ≡ sourceStart x cx
     unfolding sourceStart
-    before-corner = ap (λ (k : ℕ). x - k) e ∙ sym (picked-true (negative32 cx) _ x (le-leb 2147483648 cx h))
+    before-corner = ap (λ (k : ℕ). x - k) e ∙ sym (cond-true (negative32 cx) _ x (le-leb 2147483648 cx h))
 
     pub start-before : m < x → x - m ≡ sourceStart x cx
     start-before _ = before-corner
@@ -34,11 +34,11 @@ module _ (x cx : ℕ) where
 module _ (cx cxSrc : ℕ) where
   pub mirrored-plain : cx < 2147483648 → leb 2147483648 cxSrc ≡ mirrored cx cxSrc
   unfolding mirrored
-  mirrored-plain h = sym (picked-false (negative32 cx) (not (negative32 cxSrc)) _ (lt-leb 2147483648 cx h))
+  mirrored-plain h = sym (cond-false (negative32 cx) (not (negative32 cxSrc)) _ (lt-leb 2147483648 cx h))
 
   pub mirrored-back : 2147483648 ≤ cx → ltb cxSrc 2147483648 ≡ mirrored cx cxSrc
   unfolding mirrored
-  mirrored-back h = go (negative32 cxSrc) refl ∙ sym (picked-true (negative32 cx) (not (negative32 cxSrc)) _ (le-leb 2147483648 cx h))
+  mirrored-back h = go (negative32 cxSrc) refl ∙ sym (cond-true (negative32 cx) (not (negative32 cxSrc)) _ (le-leb 2147483648 cx h))
     where
       go : (t : Bool) → negative32 cxSrc ≡ t → ltb cxSrc 2147483648 ≡ not (negative32 cxSrc)
       go true e = le-ltb cxSrc 2147483648 (leb-true 2147483648 cxSrc e) ∙ sym (ap not e)

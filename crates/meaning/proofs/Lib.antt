@@ -1,5 +1,4 @@
 pub mod FillingLaws
 pub mod ColumnLaws
-pub mod RuleLaws
 pub mod FitLaws
 pub mod RowLaws

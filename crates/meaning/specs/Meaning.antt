@@ -1,11 +1,10 @@
 -- What an accepted record means, as a value: drawing is defined on it and never looks at the record's bytes. Definitions only.
 use Prim.Native.Nat.{ℕ}
 use mathlib.Core.List.{List}
-use lib.Dec.{eqb}
-use Rattle.words.specs.Choice.{pick}
-use Rattle.emr.specs.declared.Numbers.{Numbers}
-use Rattle.emr.specs.Numbers.{numbersOf}
-use Rattle.judge.specs.Operation.{constantAlpha, alphaFormat, background, foreground, rop}
+use Rattle.judge.specs.declared.Action.{Action}
+use Rattle.judge.specs.declared.Action.the-variants as act
+use Rattle.judge.specs.declared.Record.{Record}
+use Rattle.judge.specs.Record.{recordOf}
 use Rattle.region.specs.declared.Target.{Target}
 use Rattle.region.specs.declared.Rectangle.{Rectangle}
 use Rattle.region.specs.Axis.{within}
@@ -31,30 +30,27 @@ pub record Meaning : Type 0 where
   pub source : (i j : ℕ) → ℕ
   pub bit : (i j : ℕ) → ℕ
 
--- 0x72: alpha format 0 or 1; 0x4E: two raster operations; 0x51: one
-unfoldable pub ruleOf : (kind field brush : ℕ) → Rule
-ruleOf kind field brush =
-    pick (eqb kind 0x72) (pick (eqb (alphaFormat field) 1) (Blend1 (constantAlpha field)) (Blend0 (constantAlpha field)))
-    (pick (eqb kind 0x4E) (Masked (foreground field) (background field) brush) (Raster (rop field) brush))
+abbrev pub ruleOf : Action → (brush : ℕ) → Rule
+ruleOf (act.Blend0 a) brush = Blend0 a
+ruleOf (act.Blend1 a) brush = Blend1 a
+ruleOf (act.Masked f b) brush = Masked f b brush
+ruleOf (act.Raster o) brush = Raster o brush
 
-abbrev pub boundsOf : Numbers → Rectangle
-boundsOf n = record { left = n .left; top = n .top; right = n .right; bottom = n .bottom }
-
-abbrev pub meaningIn : List ℕ → Numbers → Meaning
-meaningIn s n = record {
-  kind = n .kind;
-  bounds = boundsOf n;
-  x = n .x;
-  y = n .y;
-  cx = n .cx;
-  cy = n .cy;
-  rule = ruleOf (n .kind) (n .operation);
-  source = sourcePixel s n;
-  bit = maskBit s n;
+abbrev pub meaningIn : List ℕ → Record → Meaning
+meaningIn s r = record {
+  kind = r .kind;
+  bounds = r .bounds;
+  x = r .x;
+  y = r .y;
+  cx = r .cx;
+  cy = r .cy;
+  rule = ruleOf (r .action);
+  source = sourcePixel s r;
+  bit = maskBit s r;
 }
 
 unfoldable pub meaningOf : List ℕ → Meaning
-meaningOf s = meaningIn s (numbersOf s)
+meaningOf s = meaningIn s (recordOf s)
 
 -- ---- drawing it
 

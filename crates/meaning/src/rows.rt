@@ -1,6 +1,6 @@
 // A row of source pixels and a row of mask bits. Of an absent source or mask all are 0: the rule does not look at them.
 ghost use mathlib.Core.Path.{_≡_};
-ghost use mathlib.Core.Bool.{false};
+ghost use mathlib.Core.Bool.{true};
 ghost use Prim.Native.Nat.{ℕ, _*_, _≤_, _<_};
 ghost use lib.ListN.{length, getD};
 ghost use Rattle.words.specs.Bytes.{magnitude32, signed32};
@@ -9,16 +9,12 @@ ghost use Rattle.pixel.specs.Place.{maskPixel};
 ghost use Rattle.pixel.specs.Widen.{Widens};
 ghost use Rattle.dib.specs.Header.{rows as rowsOf};
 ghost use Rattle.sample.specs.At.{Colours};
-ghost use Rattle.sample.specs.Colour.{masksOf};
 ghost use Rattle.sample.specs.Stored.{stored1};
-ghost use Rattle.emr.specs.Numbers.{absent};
-ghost use Rattle.judge.specs.Judged.{headerIn, checkOf};
+ghost use Rattle.judge.specs.Good.{Good};
 ghost use Rattle.picture.specs.Palette.{picturePalette};
 ghost use Rattle.meaning.specs.Sampling.{isFormat1, sourceColumn, sourceShown, maskShown};
-ghost use Rattle.meaning.specs.Reading.{InPicture};
-ghost use Rattle.judge.specs.declared.Checked.the-variants.{Accepted};
-use dib::Header;
-use emr::Numbers;
+ghost use Rattle.meaning.specs.Reading.{masksIn, InPicture};
+use judge::Record;
 use sample::Masks;
 
 fn clear(out: &mut [u32], count: usize)
@@ -59,8 +55,7 @@ fn bits(line: &[u8], columns: &[u32], out: &mut [u8])
 // s is the record. The source pixels of these columns of the source, in the row that row j of the target reads.
 pub fn of_source(
     s: &[u8],
-    n: Numbers,
-    h: Header,
+    r: Record,
     m: Masks,
     t: &[u8; 510],
     palette: &[u32; 256],
@@ -68,35 +63,33 @@ pub fn of_source(
     j: u32,
     out: &mut [u32],
 )
-    requires { ⌜ (Accepted n ≡ checkOf (now s)) × (h ≡ headerIn (now s) (n .source)) ⌝ }
-    requires { ⌜ m ≡ masksOf (h .bits) (h .compression) (h .red) (h .green) (h .blue) (h .alpha) (isFormat1 (n .kind) (n .operation)) ⌝ }
-    requires { ⌜ Widens (now t) × (now palette ≡ picturePalette (now s) (n .source)) × Colours (now palette) ⌝ }
-    requires { ⌜ (j < magnitude32 (n .cy)) × (length (now columns) ≤ length (now out)) × (absent (n .source) ≡ false → InPicture (h .width) (now columns)) ⌝ }
-    ensures { λ _. ⌜ Filled (λ k. sourceShown (now (s .entry)) n (getD (now (columns .entry)) k 0) (sourceColumn (n .source .y) (n .«cy_src») (n .cy) j)) (now (out .entry)) (length (now (columns .entry))) (now (out .exit)) ⌝ }
+    requires { ⌜ Good (length (now s)) r × (m ≡ masksIn (r .source .header) (isFormat1 (r .action))) ⌝ }
+    requires { ⌜ Widens (now t) × (now palette ≡ picturePalette (now s) (r .source)) × Colours (now palette) ⌝ }
+    requires { ⌜ (j < magnitude32 (r .cy)) × (length (now columns) ≤ length (now out)) × (r .source .present ≡ true → InPicture (r .source .header .width) (now columns)) ⌝ }
+    ensures { λ _. ⌜ Filled (λ k. sourceShown (now (s .entry)) r (getD (now (columns .entry)) k 0) (sourceColumn (r .source .y) (r .«cy_src») (r .cy) j)) (now (out .entry)) (length (now (columns .entry))) (now (out .exit)) ⌝ }
 {
-    let p = n.source;
-    if emr::fields::is_absent(p) {
-        clear(out, columns.len());
+    let p = r.source;
+    if p.present {
+        let row = crate::columns::source_column(p.y, r.cy_src, r.cy, j);
+        let line = picture::row(s, p, row);
+        fetch::row(t, p.header.bits, palette, m, line, columns, out);
         return;
     }
-    let row = crate::columns::source_column(p.y, n.cy_src, n.cy, j);
-    let line = picture::row(s, p, h, row);
-    fetch::row(t, h.bits, palette, m, line, columns, out);
+    clear(out, columns.len());
 }
 
 // The mask bits of these columns of the mask, in the row that row j of the target reads.
-pub fn of_mask(s: &[u8], n: Numbers, h: Header, columns: &[u32], j: u32, out: &mut [u8])
-    requires { ⌜ (Accepted n ≡ checkOf (now s)) × (h ≡ headerIn (now s) (n .mask)) ⌝ }
-    requires { ⌜ (length (now columns) ≤ length (now out)) × (absent (n .mask) ≡ false → InPicture (h .width) (now columns)) ⌝ }
-    ensures { λ _. ⌜ Filled (λ k. maskShown (now (s .entry)) n (getD (now (columns .entry)) k 0) (maskPixel (signed32 (n .mask .y)) j (rowsOf h))) (now (out .entry)) (length (now (columns .entry))) (now (out .exit)) ⌝ }
+pub fn of_mask(s: &[u8], r: Record, columns: &[u32], j: u32, out: &mut [u8])
+    requires { ⌜ Good (length (now s)) r × (length (now columns) ≤ length (now out)) × (r .mask .present ≡ true → InPicture (r .mask .header .width) (now columns)) ⌝ }
+    ensures { λ _. ⌜ Filled (λ k. maskShown (now (s .entry)) r (getD (now (columns .entry)) k 0) (maskPixel (signed32 (r .mask .y)) j (rowsOf (r .mask .header)))) (now (out .entry)) (length (now (columns .entry))) (now (out .exit)) ⌝ }
 {
-    let p = n.mask;
-    if emr::fields::is_absent(p) {
-        clear_bits(out, columns.len());
+    let p = r.mask;
+    if p.present {
+        let rows = words::magnitude(p.header.height);
+        let row = crate::columns::mask_column(p.y, j, rows);
+        let line = picture::row(s, p, row);
+        bits(line, columns, out);
         return;
     }
-    let rows = words::magnitude(h.height);
-    let row = crate::columns::mask_column(p.y, j, rows);
-    let line = picture::row(s, p, h, row);
-    bits(line, columns, out);
+    clear_bits(out, columns.len());
 }

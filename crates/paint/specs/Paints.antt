@@ -1,9 +1,9 @@
 -- What a pixel becomes, by the play's rule. Definitions only.
+use mathlib.Core.Bool.{cond}
 use Prim.Native.Nat.{ℕ, _-_}
 use mathlib.Core.List.{List}
 use lib.ListN.{getD}
 use lib.Dec.{eqb}
-use Rattle.words.specs.Choice.{pick}
 use Rattle.pixel.specs.Blend.{over0, over1}
 use Rattle.pixel.specs.Raster.{rasterPixel}
 use Rattle.journal.specs.Drawing.{Paint}
@@ -17,7 +17,7 @@ paintedBy (Blend0 c) source bit old = over0 source old c
 paintedBy (Blend1 c) source bit old = over1 source old c
 paintedBy (Raster op brush) source bit old = rasterPixel op brush source old
 paintedBy (Masked foreground background brush) source bit old =
-    pick (eqb bit 1) (rasterPixel foreground brush source old) (rasterPixel background brush source old)
+    cond (eqb bit 1) (rasterPixel foreground brush source old) (rasterPixel background brush source old)
 
 -- a row's source pixels and mask bits begin at column x
 abbrev pub rowPaint : Rule → (colours bits : List ℕ) (x : ℕ) → Paint

@@ -1,24 +1,28 @@
 // The pictures of a record: palette, bits part and rows.
 ghost use mathlib.Core.Path.{_≡_};
-ghost use mathlib.Core.Bool.{false};
-ghost use Prim.Native.Nat.{_+_, _≤_, _<_};
+ghost use mathlib.Core.Bool.{true, false};
+ghost use Prim.Native.Nat.{_≤_, _<_};
 ghost use lib.ListN.{length};
-ghost use lib.Dec.{leb};
-ghost use Rattle.words.specs.Choice.{pick};
-ghost use Rattle.pixel.specs.Place.{rowLength};
-ghost use Rattle.dib.specs.Header.{headerOf, topDown, rows, entries};
-ghost use Rattle.dib.specs.Judged.{badFields, badHeader, bitsNeeded};
+ghost use Rattle.dib.specs.Header.{rows, entries};
+ghost use Rattle.dib.specs.Judged.{badHeader};
 ghost use Rattle.sample.specs.At.{Colours};
-ghost use Rattle.sample.specs.Stored.{storedRow, rowBytes};
-ghost use Rattle.emr.specs.Numbers.{absent, headerPart, bitsPart};
-ghost use Rattle.judge.specs.Judged.{headerIn};
-ghost use Rattle.picture.specs.Palette.{black as blackOf, headerPalette, picturePalette};
+ghost use Rattle.judge.specs.Record.{headerPart, bitsPart};
+ghost use Rattle.judge.specs.Good.{Fit};
+ghost use Rattle.picture.specs.Palette.{black as blackOf, shownEntries, headerPalette, picturePalette, pictureRow};
 use dib::Header;
-use emr::Picture;
+use judge::Image;
+
+// The header part of a picture: the record's own bytes.
+pub fn header_part(s: &[u8], p: Image) -> &[u8]
+    requires { ⌜ Fit (length (now s)) p ⌝ }
+    ensures { λ r. ⌜ now r ≡ headerPart (now (s .entry)) p ⌝ }
+{
+    words::part(s, p.bmi as usize, p.bmi_len as usize)
+}
 
 // The bits part of a picture: the record's own bytes.
-pub fn bits_part(s: &[u8], p: Picture) -> &[u8]
-    requires { ⌜ p .bits + p .«bits_len» ≤ length (now s) ⌝ }
+pub fn bits_part(s: &[u8], p: Image) -> &[u8]
+    requires { ⌜ Fit (length (now s)) p ⌝ }
     ensures { λ r. ⌜ now r ≡ bitsPart (now (s .entry)) p ⌝ }
 {
     words::part(s, p.bits as usize, p.bits_len as usize)
@@ -33,8 +37,7 @@ pub fn black() -> [u32; 256]
 
 // How many entries the palette shows: none at 16 bits and up.
 fn shown_entries(h: Header) -> usize
-    requires { ⌜ badFields h ≡ false ⌝ }
-    ensures { λ r. ⌜ (r ≡ pick (leb (h .bits) 8) (entries h) 0) × (r ≤ entries h) × (r ≤ 256) ⌝ }
+    ensures { λ r. ⌜ (r ≡ shownEntries h) × (r ≤ entries h) ⌝ }
 {
     if h.bits <= 8 {
         return dib::table_entries(h);
@@ -42,33 +45,33 @@ fn shown_entries(h: Header) -> usize
     0
 }
 
-fn header_palette(header: &[u8]) -> [u32; 256]
-    requires { ⌜ badHeader (length (now header)) (headerOf (now header)) ≡ false ⌝ }
-    ensures { λ r. ⌜ (r ≡ headerPalette (now (header .entry))) × Colours r ⌝ }
+fn header_palette(header: &[u8], h: Header) -> [u32; 256]
+    requires { ⌜ badHeader (length (now header)) h ≡ false ⌝ }
+    ensures { λ r. ⌜ (r ≡ headerPalette (now (header .entry)) h) × Colours r ⌝ }
 {
-    let h = dib::read(header);
     let n = shown_entries(h);
     let from = dib::table_start(h);
     sample::palette::read(&header[from..], n)
 }
 
 // The palette of a picture; of an absent one it is black.
-pub fn palette(s: &[u8], p: Picture) -> [u32; 256]
-    requires { ⌜ (p .bmi + p .«bmi_len» ≤ length (now s)) × (absent p ≡ false → badHeader (length (headerPart (now s) p)) (headerIn (now s) p) ≡ false) ⌝ }
+pub fn palette(s: &[u8], p: Image) -> [u32; 256]
+    requires { ⌜ Fit (length (now s)) p ⌝ }
     ensures { λ r. ⌜ (r ≡ picturePalette (now (s .entry)) p) × Colours r ⌝ }
 {
-    if emr::fields::is_absent(p) {
-        return black();
+    if p.present {
+        let h = p.header;
+        return header_palette(header_part(s, p), h);
     }
-    header_palette(judge::header_part(s, p))
+    black()
 }
 
-// The bytes of a row of a picture, counted from its top. The header has passed status 8, and the bits part holds its rows.
-pub fn row(s: &[u8], p: Picture, h: Header, row: u32) -> &[u8]
-    requires { ⌜ (p .bits + p .«bits_len» ≤ length (now s)) × (badFields h ≡ false) ⌝ }
-    requires { ⌜ (bitsNeeded h ≤ p .«bits_len») × (row < rows h) ⌝ }
-    ensures { λ r. ⌜ now r ≡ rowBytes (bitsPart (now (s .entry)) p) (rowLength (h .width) (h .bits)) (storedRow (topDown h) (rows h) row) ⌝ }
+// The bytes of a row of a present picture, counted from its top.
+pub fn row(s: &[u8], p: Image, row: u32) -> &[u8]
+    requires { ⌜ Fit (length (now s)) p × (p .present ≡ true) × (row < rows (p .header)) ⌝ }
+    ensures { λ r. ⌜ now r ≡ pictureRow (now (s .entry)) p row ⌝ }
 {
+    let h = p.header;
     let bytes = bits_part(s, p);
     let long = pixel::place::row_length(h.width, h.bits) as usize;
     let k = sample::stored::row_at(dib::is_top_down(h), words::magnitude(h.height), row);

@@ -11,9 +11,9 @@ use lib.Dec.{ltb}
 use borrow.Author.Tests.{lt-ltb, le-ltb}
 use Rattle.words.specs.Choice.{orElse}
 use Rattle.words.proofs.ListLaws.{sets-append}
-use Rattle.words.proofs.ChoiceLaws.{picked-true, picked-false}
-use Rattle.emr.specs.declared.Numbers.{Numbers}
-use Rattle.emr.specs.Numbers.{numbersOf}
+use Rattle.words.proofs.ChoiceLaws.{cond-true, cond-false}
+use Rattle.judge.specs.declared.Record.{Record}
+use Rattle.judge.specs.Record.{recordOf}
 use Rattle.judge.specs.declared.Checked.{Checked}
 use Rattle.judge.specs.declared.Checked.the-variants.{Accepted, Refused}
 use Rattle.judge.specs.Judged.{statusOf, settled, checkOf, statusIn}
@@ -29,7 +29,7 @@ use Rattle.journal.proofs.RecordLaws.{length-bytes, bytes-append, length-saved}
 use Rattle.lent.specs.Lent.{lent, Outcome, outcome, settle, limits}
 use Rattle.lent.specs.Playing.{counted, drawnBy, appended, played, roomStatus, playOf}
 use Rattle.lent.proofs.LimitLaws.{Passed, passed}
-use Rattle.meaning.specs.Meaning.{meaningIn, meaningOf, boundsOf, paintOn, workOf}
+use Rattle.meaning.specs.Meaning.{meaningIn, meaningOf, paintOn, workOf}
 use Rattle.player.specs.declared.Answer.{Answer}
 use Rattle.player.specs.Calls.{playWith, work, play, accepted}
 use Rattle.player.specs.Left.{left, refusal}
@@ -40,7 +40,7 @@ module _ (w : ℕ) (k : Work) (s j : List ℕ) (u p : ℕ) (e : counted k ≡ p)
   no-room : length j / stride - u < p + 1 → outcome 14 0 (lent s j u) ≡ accepted w k (lent s j u)
   unfolding roomStatus
   no-room l = ap (λ (r : ℕ). settle r (lent s j u) (outcome 0 (counted k) (played w k (lent s j u))))
-      (sym (picked-true (ltb (length j / stride - u) (counted k + 1)) 14 0 (lt-ltb (length j / stride - u) (counted k + 1) (omega (arith, e)))))
+      (sym (cond-true (ltb (length j / stride - u) (counted k + 1)) 14 0 (lt-ltb (length j / stride - u) (counted k + 1) (omega (arith, e)))))
 
   -- the pixels' records, and the closing one behind them
   journal-is : (j1 j2 : List ℕ) → j1 ≡ sets j (u * stride) (bytesOf (saved w (k .paint) (k .places) s))
@@ -64,18 +64,18 @@ module _ (w : ℕ) (k : Work) (s j : List ℕ) (u p : ℕ) (e : counted k ≡ p)
       let n : u + p + 1 ≡ u + (counted k + 1) = omega (arith, e) in
       (λ t. outcome 0 (sym e t) (lent (es t) (journal-is j1 j2 ej ek t) (n t)))
       ∙ ap (λ (r : ℕ). settle r (lent s j u) (outcome 0 (counted k) (played w k (lent s j u))))
-      (sym (picked-false (ltb (length j / stride - u) (counted k + 1)) 14 0 (le-ltb (length j / stride - u) (counted k + 1) (omega (arith, e)))))
+      (sym (cond-false (ltb (length j / stride - u) (counted k + 1)) 14 0 (le-ltb (length j / stride - u) (counted k + 1) (omega (arith, e)))))
 
 -- ---- an accepted record
 
-module _ (w h : ℕ) (s j : List ℕ) (u : ℕ) (r : List ℕ) (n : Numbers) (clip : Rectangle) (brush : ℕ) (t : Target)
-    (f : limits w h (length s) (length j) u ≡ 0) (e : t ≡ targetOf w h clip (boundsOf n) (n .x) (n .y) (n .cx) (n .cy)) where
+module _ (w h : ℕ) (s j : List ℕ) (u : ℕ) (r : List ℕ) (n : Record) (clip : Rectangle) (brush : ℕ) (t : Target)
+    (f : limits w h (length s) (length j) u ≡ 0) (e : t ≡ targetOf w h clip (n .bounds) (n .x) (n .y) (n .cx) (n .cy)) where
   limits-passed : Passed w h (length s) (length j) u
   limits-passed = passed w h (length s) (length j) u f
 
   pub pixels-few : t .columns .count * t .rows .count ≤ 16777216
   pixels-few =
-      let on = subst (λ (t : Target). On w (t .columns) × On h (t .rows)) (sym e) (inside w h clip (boundsOf n) (n .x) (n .y) (n .cx) (n .cy)) in
+      let on = subst (λ (t : Target). On w (t .columns) × On h (t .rows)) (sym e) (inside w h clip (n .bounds) (n .x) (n .y) (n .cx) (n .cy)) in
       let a : t .columns .count ≤ 4096 = omega (arith, on .0 .most, limits-passed .wide .1) in
       let b : t .rows .count ≤ 4096 = omega (arith, on .1 .most, limits-passed .high .1) in
       mul-le-mul a b
@@ -111,7 +111,7 @@ isRefused (Accepted n) = false
 isRefused (Refused k) = true
 
 -- a refused record's status is no 0
-refused-some : (k status : ℕ) (n : Numbers) → Refused k ≡ settled status n → (status ≡ k) × (k ≡ 0 → ⊥)
+refused-some : (k status : ℕ) (n : Record) → Refused k ≡ settled status n → (status ≡ k) × (k ≡ 0 → ⊥)
 refused-some k zero n e = absurd (true≢false (ap isRefused e))
 refused-some k (suc status) n e = let q = ap statusIn e in (sym q, λ z. omega (arith, q))
 
@@ -143,13 +143,13 @@ module _ (w h : ℕ) (s j : List ℕ) (u : ℕ) (r : List ℕ) (clip : Rectangle
       pub play-refused : (k : ℕ) (a : Answer) → v ≡ Refused k → a ≡ refusal k u → left a s j ≡ play w h (playWith r clip brush) (lent s j u)
       unfolding checkOf
       play-refused k a q p =
-          let o = refused-some k (statusOf r) (numbersOf r) (sym q ∙ ev) in
+          let o = refused-some k (statusOf r) (recordOf r) (sym q ∙ ev) in
           ap (λ (a : Answer). left a s j) p ∙ by-reading k (o .1) ∙ ap₂ settledBy (sym z ∙ eb) (sym (o .0)) ∙ play-is
 
-      pub play-accepted : (n : Numbers) (o : Outcome) → v ≡ Accepted n → o ≡ accepted w (workOf w h (meaningIn r n) clip brush) (lent s j u)
+      pub play-accepted : (n : Record) (o : Outcome) → v ≡ Accepted n → o ≡ accepted w (workOf w h (meaningIn r n) clip brush) (lent s j u)
           → o ≡ play w h (playWith r clip brush) (lent s j u)
       unfolding work meaningOf
       play-accepted n o q p =
-          let m : n ≡ numbersOf r = accepted-is r n (sym q ∙ ev) .numbers in
+          let m : n ≡ recordOf r = accepted-is r n (sym q ∙ ev) .0 in
           let x : 0 ≡ statusOf r = ap statusIn (sym q ∙ ev) ∙ check-number r in
-          p ∙ ap (λ (n : Numbers). accepted w (workOf w h (meaningIn r n) clip brush) (lent s j u)) m ∙ ap₂ settledBy (sym z ∙ eb) x ∙ play-is
+          p ∙ ap (λ (n : Record). accepted w (workOf w h (meaningIn r n) clip brush) (lent s j u)) m ∙ ap₂ settledBy (sym z ∙ eb) x ∙ play-is

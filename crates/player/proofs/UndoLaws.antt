@@ -8,7 +8,7 @@ use lib.ListN.{length}
 use lib.Dec.{eqb, ltb}
 use borrow.Author.Tests.{lt-ltb, le-ltb, eq-eqb, ne-eqb}
 use Rattle.words.specs.Choice.{given, orElse}
-use Rattle.words.proofs.ChoiceLaws.{picked-true, picked-false, or-true}
+use Rattle.words.proofs.ChoiceLaws.{cond-true, cond-false, or-by-first}
 use Rattle.journal.specs.Records.{stride, entryAt, entriesAt}
 use Rattle.journal.specs.Restoring.{restored, anyOff}
 use Rattle.lent.specs.Lent.{Lent, lent, Outcome, outcome, settle, limits, lentStatus}
@@ -58,14 +58,14 @@ module _ (w h : ℕ) (s j : List ℕ) (u : ℕ) where
       named-inside n l = omega (arith, limits-passed .enough)
 
       pub undo-empty : (r : Answer) → u ≡ 0 → r ≡ refusal 15 u → left r s j ≡ undoOf w h (lent s j u)
-      undo-empty r t e = refuses r 14 (used-decides ∙ picked-true _ _ _ (eq-eqb u 0 t)) e
+      undo-empty r t e = refuses r 14 (used-decides ∙ cond-true _ _ _ (eq-eqb u 0 t)) e
 
       module _ (a : u ≡ 0 → ⊥) where
         pub last-inside : (u - 1 + 1) * stride ≤ length j
         last-inside = omega (arith, limits-passed .enough)
 
         top-decides : (t : Bool) → badTop w h (lent s j u) ≡ t → undoStatus w h (lent s j u) ≡ given 16 t 0
-        top-decides t q = used-decides ∙ picked-false _ _ _ (ne-eqb u 0 a) ∙ ap (λ (t : Bool). given 16 t 0) q
+        top-decides t q = used-decides ∙ cond-false _ _ _ (ne-eqb u 0 a) ∙ ap (λ (t : Bool). given 16 t 0) q
 
         top-bad : (r : Answer) → badTop w h (lent s j u) ≡ true → r ≡ refusal 16 u → left r s j ≡ undoOf w h (lent s j u)
         top-bad r q e = refuses r 15 (top-decides true q) e
@@ -73,7 +73,7 @@ module _ (w h : ℕ) (s j : List ℕ) (u : ℕ) where
         module _ (f : ℕ) (ef : f ≡ entryAt j (u - 1) .first) where
           pub undo-unclosed : (r : Answer) → (f ≡ 0xFFFFFFFF → ⊥) → r ≡ refusal 16 u → left r s j ≡ undoOf w h (lent s j u)
           unfolding badTop
-          undo-unclosed r t e = top-bad r (or-true _ _ (or-true _ _ (ap not (ne-eqb _ 0xFFFFFFFF (λ q. t (ef ∙ q)))))) e
+          undo-unclosed r t e = top-bad r (or-by-first _ _ (or-by-first _ _ (ap not (ne-eqb _ 0xFFFFFFFF (λ q. t (ef ∙ q)))))) e
 
           module _ (c : f ≡ 0xFFFFFFFF) (n : ℕ) (en : n ≡ entryAt j (u - 1) .second) where
             count-decides : (t : Bool) → ltb (u - 1) n ≡ t → badTop w h (lent s j u) ≡ (t || anyOff w h (entriesAt j (u - 1 - n) n))

@@ -1,10 +1,9 @@
 -- All that the journal's laws ask of a play's work: its places lie on the surface, and it makes 32-bit numbers of 32-bit numbers.
 -- Assumes nothing.
-use mathlib.Core.Bool.{Bool, true, false}
+use mathlib.Core.Bool.{Bool, true, false, cond}
 use Prim.Native.Nat.{ℕ, zero, suc, _+_, _^_, _≤_, _<_}
 use native.Mathlib.Omega.{arith}
 use lib.Dec.{eqb}
-use Rattle.words.specs.Choice.{pick}
 use Rattle.pixel.specs.Round.{cut}
 use Rattle.pixel.specs.Blend.{blend0, blend1, pixelOf, over0, over1}
 use Rattle.pixel.specs.Raster.{rasterPixel}
@@ -69,7 +68,7 @@ raster-word : (op brush s d : ℕ) → Word d → Word (rasterPixel op brush s d
 unfolding rasterPixel
 raster-word op brush s d h = omega (arith, raster-lt op brush s d)
 
-either-word : (t : Bool) (a b : ℕ) → Word a → Word b → Word (pick t a b)
+either-word : (t : Bool) (a b : ℕ) → Word a → Word b → Word (cond t a b)
 either-word true a b ha hb = ha
 either-word false a b ha hb = hb
 

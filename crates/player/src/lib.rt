@@ -1,15 +1,14 @@
 // Playing a record, and undoing the last play.
 ghost use mathlib.Core.Path.{_≡_};
 ghost use lib.ListN.{length};
-ghost use Rattle.judge.specs.declared.Checked.the-variants.{Accepted};
-ghost use Rattle.judge.specs.Judged.{checkOf};
+ghost use Rattle.judge.specs.Good.{Good};
 ghost use Rattle.lent.specs.Lent.{lent, limits};
 ghost use Rattle.lent.specs.Undoing.{undoOf};
 ghost use Rattle.meaning.specs.Meaning.{meaningIn, workOf};
 ghost use Rattle.player.specs.Calls.{playWith, play as playing, accepted as acceptedOf};
 ghost use Rattle.player.specs.Left.{left, refusal};
-use emr::Numbers;
 use judge::Checked;
+use judge::Record;
 use region::Rectangle;
 
 // A call's answer: its status, its number of pixels, and the journal's records in use from now on.
@@ -38,19 +37,14 @@ fn accepted(
     journal: &mut [u8],
     used: u64,
     s: &[u8],
-    n: Numbers,
+    n: Record,
     clip: Rectangle,
     brush: u32,
 ) -> Answer
-    requires { ⌜ (limits width height (length (now surface)) (length (now journal)) used ≡ 0) × (Accepted n ≡ checkOf (now s)) ⌝ }
+    requires { ⌜ (limits width height (length (now surface)) (length (now journal)) used ≡ 0) × Good (length (now s)) n ⌝ }
     ensures { λ r. ⌜ left r (now (surface .exit)) (now (journal .exit)) ≡ acceptedOf width (workOf width height (meaningIn (now (s .entry)) n) clip brush) (lent (now (surface .entry)) (now (journal .entry)) used) ⌝ }
 {
-    let bounds = Rectangle {
-        left: n.left,
-        top: n.top,
-        right: n.right,
-        bottom: n.bottom,
-    };
+    let bounds = n.bounds;
     let t = region::clipped_target(width, height, clip, bounds, n.x, n.y, n.cx, n.cy);
     let pixels = t.columns.count * t.rows.count;
     let records = journal.len() / journal::STRIDE;

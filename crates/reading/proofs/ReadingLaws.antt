@@ -1,64 +1,52 @@
 -- A reading by what the code knows at each return, and that its parts lie in the record. Assumes nothing.
 use mathlib.Core.Path.{_≡_, refl, sym, ap, _∙_, subst}
-use mathlib.Core.Bool.{Bool, true, false}
+use mathlib.Core.Bool.{Bool, true, false, cond}
 use mathlib.Core.List.{List}
 use Prim.Native.Nat.{ℕ, _+_, _≤_, zero-le}
 use native.Mathlib.Omega.{arith}
 use lib.ListN.{length}
-use Rattle.words.specs.Choice.{pick}
-use Rattle.dib.specs.declared.Header.{Header}
-use Rattle.dib.specs.Judged.{badFields, bitsNeeded}
+use Rattle.dib.specs.Judged.{badFields}
 use Rattle.dib.proofs.JudgeLaws.{passed-fields}
-use Rattle.emr.specs.declared.Picture.{Picture}
-use Rattle.emr.specs.declared.Numbers.{Numbers}
-use Rattle.emr.specs.Numbers.{absent, headerPart}
+use Rattle.judge.specs.declared.Image.{Image}
+use Rattle.judge.specs.declared.Record.{Record}
 use Rattle.judge.specs.declared.Checked.{Checked}
 use Rattle.judge.specs.declared.Checked.the-variants.{Accepted, Refused}
-use Rattle.judge.specs.Judged.{headerIn, checkOf}
-use Rattle.judge.proofs.AcceptedLaws.{Fit, accepted}
+use Rattle.judge.specs.Judged.{checkOf}
+use Rattle.judge.specs.Good.{Fit, Good}
+use Rattle.judge.proofs.AcceptedLaws.{accepted}
+use Rattle.picture.specs.Palette.{black, picturePalette}
 use Rattle.reading.specs.declared.Reading.{Reading}
-use Rattle.reading.specs.Reading.{wanted, emptyReading, fullReading, pictureReading, readingIn, readingOf}
+use Rattle.reading.specs.Reading.{wanted, emptyReading, fullReading, pictureReading, readingIn, readingOf, paletteIn, readPalette}
 
--- ---- one picture
+pub wanted-fit : {len : ℕ} (mask : Bool) (r : Record) → Good len r → Fit len (wanted mask r)
+wanted-fit true r g = g .mask
+wanted-fit false r g = g .source
 
-module _ (s : List ℕ) (p : Picture) (b : Bool) (r : Reading) (e : b ≡ absent p) where
-  pub picture-none : b ≡ true → r ≡ emptyReading 0 → r ≡ pictureReading s p
-  unfolding pictureReading
-  picture-none t q = q ∙ sym (ap (λ (x : Bool). pick x (emptyReading 0) (fullReading p (headerIn s p))) (sym e ∙ t))
+-- ---- the answers
 
-  pub picture-full : (h : Header) → b ≡ false → h ≡ headerIn s p → r ≡ fullReading p h → r ≡ pictureReading s p
-  unfolding pictureReading
-  picture-full h t g q =
-      q ∙ ap (fullReading p) g ∙ sym (ap (λ (x : Bool). pick x (emptyReading 0) (fullReading p (headerIn s p))) (sym e ∙ t))
+module _ (s : List ℕ) (mask : Bool) (v : Checked) (e : v ≡ checkOf s) where
+  module _ (r : Record) (p : Image) (q : v ≡ Accepted r) (w : p ≡ wanted mask r) where
+    pub read-fit : Fit (length s) p
+    read-fit = subst (Fit (length s)) (sym w) (wanted-fit mask r (accepted s r (sym q ∙ e) .1))
 
--- ---- what a picture's reading asks of an accepted record
+    pub read-fields : p .present ≡ true → badFields (p .header) ≡ false
+    read-fields t = passed-fields _ (p .header) (read-fit .sound t .header-ok)
 
-abbrev pub Asked : List ℕ → Picture → Type 0
-Asked s p = (p .bmi + p .«bmi_len» ≤ length s) × (absent p ≡ false → badFields (headerIn s p) ≡ false)
+    pub read-accepted : (d : Reading) → d ≡ pictureReading p → d ≡ readingOf s mask
+    unfolding readingOf
+    read-accepted d g = g ∙ ap pictureReading w ∙ ap (readingIn mask) (sym q ∙ e)
 
-fit-asked : (s : List ℕ) (p : Picture) → Fit s p → Asked s p
-fit-asked s p f = (f .within .header, λ a. passed-fields _ _ (f .sound a .header-ok))
+    pub palette-accepted : (d : List ℕ) → d ≡ picturePalette s p → d ≡ readPalette s mask
+    unfolding readPalette
+    palette-accepted d g = g ∙ ap (picturePalette s) w ∙ ap (paletteIn s mask) (sym q ∙ e)
 
-module _ (s : List ℕ) (v : Checked) (e : v ≡ checkOf s) where
-  pub asked-mask : (n : Numbers) → v ≡ Accepted n → Asked s (n .mask)
-  asked-mask n q = fit-asked s (n .mask) (accepted s n (sym q ∙ e) .mask)
-
-  pub asked-source : (n : Numbers) → v ≡ Accepted n → Asked s (n .source)
-  asked-source n q = fit-asked s (n .source) (accepted s n (sym q ∙ e) .source)
-
-  -- ---- the three answers
-
-  pub read-refused : (mask : Bool) (k : ℕ) (r : Reading) → v ≡ Refused k → r ≡ emptyReading k → r ≡ readingOf s mask
+  pub read-refused : (k : ℕ) (d : Reading) → v ≡ Refused k → d ≡ emptyReading k → d ≡ readingOf s mask
   unfolding readingOf
-  read-refused mask k r q g = g ∙ ap (readingIn s mask) (sym q ∙ e)
+  read-refused k d q g = g ∙ ap (readingIn mask) (sym q ∙ e)
 
-  pub read-mask : (mask : Bool) (n : Numbers) (r : Reading) → v ≡ Accepted n → mask ≡ true → r ≡ pictureReading s (n .mask) → r ≡ readingOf s mask
-  unfolding readingOf
-  read-mask mask n r q t g = g ∙ ap (λ (m : Bool). pictureReading s (wanted m n)) (sym t) ∙ ap (readingIn s mask) (sym q ∙ e)
-
-  pub read-source : (mask : Bool) (n : Numbers) (r : Reading) → v ≡ Accepted n → mask ≡ false → r ≡ pictureReading s (n .source) → r ≡ readingOf s mask
-  unfolding readingOf
-  read-source mask n r q t g = g ∙ ap (λ (m : Bool). pictureReading s (wanted m n)) (sym t) ∙ ap (readingIn s mask) (sym q ∙ e)
+  pub palette-refused : (k : ℕ) (d : List ℕ) → v ≡ Refused k → d ≡ black → d ≡ readPalette s mask
+  unfolding readPalette
+  palette-refused k d q g = g ∙ ap (paletteIn s mask) (sym q ∙ e)
 
 -- ---- the parts lie in the record
 
@@ -69,22 +57,16 @@ pub record Within (len : ℕ) (r : Reading) : Type 0 where
 empty-within : (len k : ℕ) → Within len (emptyReading k)
 empty-within len k = record { header = zero-le; view = zero-le }
 
-picture-within : (s : List ℕ) (p : Picture) → Fit s p → Within (length s) (pictureReading s p)
+picture-within : (len : ℕ) (p : Image) → Fit len p → Within len (pictureReading p)
 unfolding pictureReading
-picture-within s p f = go (absent p) refl
+picture-within len p f = go (p .present) refl
   where
-    go : (t : Bool) → absent p ≡ t → Within (length s) (pick t (emptyReading 0) (fullReading p (headerIn s p)))
-    go true a = empty-within (length s) 0
-    go false a = let d = f .sound a in record { header = f .within .header; view = omega (arith, f .within .bits, d .rows-ok) }
+    go : (t : Bool) → p .present ≡ t → Within len (cond t (fullReading p) (emptyReading 0))
+    go false a = empty-within len 0
+    go true a = record { header = f .header-in; view = omega (arith, f .bits-in, f .sound a .rows-ok) }
 
-wanted-fit : (s : List ℕ) (mask : Bool) (n : Numbers) → Fit s (n .source) → Fit s (n .mask) → Fit s (wanted mask n)
-wanted-fit s true n a b = b
-wanted-fit s false n a b = a
-
-checked-within : (s : List ℕ) (mask : Bool) (v : Checked) → v ≡ checkOf s → Within (length s) (readingIn s mask v)
-checked-within s mask (Accepted n) e =
-    let a = accepted s n e in
-    picture-within s (wanted mask n) (wanted-fit s mask n (a .source) (a .mask))
+checked-within : (s : List ℕ) (mask : Bool) (v : Checked) → v ≡ checkOf s → Within (length s) (readingIn mask v)
+checked-within s mask (Accepted r) e = picture-within (length s) (wanted mask r) (wanted-fit mask r (accepted s r e .1))
 checked-within s mask (Refused k) e = empty-within (length s) k
 
 pub within : (s : List ℕ) (mask : Bool) (r : Reading) → r ≡ readingOf s mask → Within (length s) r

@@ -1,15 +1,13 @@
 // Reading a record's source or mask, as answers for everyone: no `requires`, every byte string is answered.
 ghost use mathlib.Core.Path.{_≡_};
-ghost use mathlib.Core.Bool.{false};
+ghost use mathlib.Core.Bool.{true, false};
 ghost use Prim.Native.Nat.{_+_, _≤_};
 ghost use lib.ListN.{length, take, drop};
-ghost use Rattle.dib.specs.Judged.{badFields, bitsNeeded};
-ghost use Rattle.emr.specs.Numbers.{absent};
-ghost use Rattle.judge.specs.Judged.{headerIn};
-ghost use Rattle.reading.specs.Reading.{emptyReading, fullReading, pictureReading, readingOf, headerBytes, viewBytes, readPalette};
-use dib::Header;
-use emr::Picture;
+ghost use Rattle.dib.specs.Judged.{badFields};
+ghost use Rattle.reading.specs.Reading.{wanted as wantedOf, emptyReading, fullReading, pictureReading, readingOf, headerBytes, viewBytes, readPalette};
 use judge::Checked;
+use judge::Image;
+use judge::Record;
 
 // What a reading answers, but for the bytes: the status, where the header part and the view's bytes stand in the record,
 // width, rows and layout. The masks are 0 under BI_RGB. Where there is no picture, all is 0 in the 1-bit bottom-up layout.
@@ -51,10 +49,11 @@ fn nothing(status: u32) -> Reading
     }
 }
 
-fn full(p: Picture, h: Header) -> Reading
-    requires { ⌜ badFields h ≡ false ⌝ }
-    ensures { λ r. ⌜ r ≡ fullReading p h ⌝ }
+fn full(p: Image) -> Reading
+    requires { ⌜ badFields (p .header) ≡ false ⌝ }
+    ensures { λ r. ⌜ r ≡ fullReading p ⌝ }
 {
+    let h = p.header;
     let view_len = dib::bits_needed(h) as usize;
     let rows = words::magnitude(h.height);
     let top_down = dib::is_top_down(h);
@@ -76,30 +75,34 @@ fn full(p: Picture, h: Header) -> Reading
     }
 }
 
-fn of_picture(s: &[u8], p: Picture) -> Reading
-    requires { ⌜ (p .bmi + p .«bmi_len» ≤ length (now s)) × (absent p ≡ false → badFields (headerIn (now s) p) ≡ false) ⌝ }
-    ensures { λ r. ⌜ r ≡ pictureReading (now (s .entry)) p ⌝ }
+fn of_picture(p: Image) -> Reading
+    requires { ⌜ (p .present ≡ true → badFields (p .header) ≡ false) ⌝ }
+    ensures { λ r. ⌜ r ≡ pictureReading p ⌝ }
 {
-    if emr::fields::is_absent(p) {
-        return nothing(0);
+    if p.present {
+        return full(p);
     }
-    full(p, judge::header(s, p))
+    nothing(0)
+}
+
+fn wanted(mask: bool, r: Record) -> Image
+    ensures { λ p. ⌜ p ≡ wantedOf mask r ⌝ }
+{
+    if mask {
+        return r.mask;
+    }
+    r.source
 }
 
 // The reading for the source, or for the mask.
 pub fn read(s: &[u8], mask: bool) -> Reading
     ensures { λ r. ⌜ r ≡ readingOf (now (s .entry)) mask ⌝ }
 {
-    let n = match judge::check(s) {
-        Checked::Accepted(n) => n,
+    let r = match judge::check(s) {
+        Checked::Accepted(r) => r,
         Checked::Refused(k) => return nothing(k),
     };
-    if mask {
-        let p = n.mask;
-        return of_picture(s, p);
-    }
-    let p = n.source;
-    of_picture(s, p)
+    of_picture(wanted(mask, r))
 }
 
 // The header part: all its bytes, the record's own.
@@ -128,14 +131,9 @@ pub fn view_part(s: &[u8], mask: bool) -> &[u8]
 pub fn palette(s: &[u8], mask: bool) -> [u32; 256]
     ensures { λ r. ⌜ r ≡ readPalette (now (s .entry)) mask ⌝ }
 {
-    let n = match judge::check(s) {
-        Checked::Accepted(n) => n,
+    let r = match judge::check(s) {
+        Checked::Accepted(r) => r,
         Checked::Refused(_) => return picture::black(),
     };
-    if mask {
-        let p = n.mask;
-        return picture::palette(s, p);
-    }
-    let p = n.source;
-    picture::palette(s, p)
+    picture::palette(s, wanted(mask, r))
 }

@@ -1,6 +1,6 @@
 -- A pixel's row and column lie in the bytes of a header that was passed, and its masks can be read with. Assumes nothing.
 use mathlib.Core.Path.{_≡_, refl, ap, _∙_}
-use mathlib.Core.Bool.{Bool, true, false, not, _||_, _&&_}
+use mathlib.Core.Bool.{Bool, true, false, cond, not, _||_, _&&_}
 use mathlib.Core.List.{List}
 use Prim.Native.Nat.{ℕ, _+_, _*_, _^_, _≤_, _<_}
 use native.Mathlib.Nat.{mul-le-mul-right}
@@ -9,7 +9,6 @@ use lib.Count.{ones, onesIn}
 use lib.Dec.{eqb, leb, ltb, lit≤}
 use lib.ListN.{length, length-take, length-drop}
 use borrow.Author.Tests.{eqb-true, leb-true, not-false}
-use Rattle.words.specs.Choice.{pick}
 use Rattle.words.proofs.ChoiceLaws.{or-none, and-both}
 use Rattle.pixel.specs.Masks.{maskWidth, maskOf, contiguous, isChannel}
 use Rattle.pixel.specs.Place.{rowLength}
@@ -55,7 +54,7 @@ none = lit≤ tt
 pub run : (w p : ℕ) → 1 ≤ w → w ≤ 8 → Channel (maskOf w p)
 run w p h l = rw (ones-of w p) (h, l)
 
-either : (P : ℕ → Type 0) (t : Bool) {a b : ℕ} → P a → P b → P (pick t a b)
+either : (P : ℕ → Type 0) (t : Bool) {a b : ℕ} → P a → P b → P (cond t a b)
 either P true p q = p
 either P false p q = q
 
@@ -78,7 +77,6 @@ module _ (bits : ℕ) where
   -- BI_BITFIELDS
   own : (red green blue alpha : ℕ) → badChannels bits red green blue alpha ≡ false
       → Sampled (record { red = red; green = green; blue = blue; alpha = alpha })
-  unfolding badChannels
   own red green blue alpha e =
       let a = or-none _ (not (eqb alpha 0 || isChannel bits alpha)) e in
       let b = or-none _ (not (isChannel bits blue)) (a .0) in

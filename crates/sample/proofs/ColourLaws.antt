@@ -41,6 +41,6 @@ unfolding channelAt
 channel-lt w p n = mod-lt (n / 2 ^ p) (pow-pos w)
 
 -- `masks` at 16 bits: no alpha, whatever the format
-pub and-false : (b : Bool) → (b && false) ≡ false
-and-false true = refl
-and-false false = refl
+pub and-by-first : (b : Bool) → (b && false) ≡ false
+and-by-first true = refl
+and-by-first false = refl

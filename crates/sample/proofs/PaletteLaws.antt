@@ -1,6 +1,6 @@
 -- The palette as the loop fills it: the table's colours over 256 black ones. Assumes nothing.
 use mathlib.Core.Path.{_≡_, refl, sym, ap, _∙_}
-use mathlib.Core.Bool.{Bool, true, false}
+use mathlib.Core.Bool.{Bool, true, false, cond}
 use mathlib.Core.List.{List, [], _∷_}
 use Prim.Native.Nat.{ℕ, zero, suc, _*_, _^_, _≤_, _<_}
 use native.Mathlib.Nat.{le-trans}
@@ -8,7 +8,6 @@ use lib.Dec.{lit<, ltb}
 use lib.ListN.{getD, set, replicate, length-replicate, getD-replicate}
 use borrow.Author.Tests.{lt-ltb, ltb-true, ltb-false}
 use Rattle.words.specs.Bytes.{le24}
-use Rattle.words.specs.Choice.{pick}
 use Rattle.words.specs.Filled.{Filled}
 use Rattle.words.proofs.FillLaws.{filled-all}
 use Rattle.sample.specs.At.{Colours}
@@ -19,11 +18,11 @@ black = replicate 256 0
 
 -- the colour that index k shows
 abbrev pub colourAt : (table : List ℕ) (n k : ℕ) → ℕ
-colourAt table n k = pick (ltb k n) (entryColour table k) 0
+colourAt table n k = cond (ltb k n) (entryColour table k) 0
 
 module _ (table : List ℕ) (n : ℕ) where
-  by-test : {b : Bool} (k : ℕ) → ltb k n ≡ b → pick b (entryColour table k) 0 ≡ colourAt table n k
-  by-test k e = sym (ap (λ (b : Bool). pick b (entryColour table k) 0) e)
+  by-test : {b : Bool} (k : ℕ) → ltb k n ≡ b → cond b (entryColour table k) 0 ≡ colourAt table n k
+  by-test k e = sym (ap (λ (b : Bool). cond b (entryColour table k) 0) e)
 
   pub entry-read : (k : ℕ) → k < n → le24 table (k * 4) ≡ colourAt table n k
   unfolding entryColour

@@ -1,10 +1,9 @@
 -- Document 01, "Reading a picture": the colour and alpha of a stored number. Definitions only.
 use Prim.Native.Nat.{ℕ, _+_, _*_, _^_, _≤_}
-use mathlib.Core.Bool.{Bool, _&&_}
+use mathlib.Core.Bool.{Bool, cond, _&&_}
 use mathlib.Core.List.{List}
 use lib.ListN.{getD}
 use lib.Dec.{eqb, leb}
-use Rattle.words.specs.Choice.{pick}
 use Rattle.pixel.specs.Blend.{pixelOf}
 use Rattle.pixel.specs.Masks.{maskWidth, maskPlace, channelAt}
 use Rattle.pixel.specs.Widen.{widened}
@@ -19,10 +18,10 @@ channel8 mask n = widened (maskWidth mask) (channelAt (maskWidth mask) (maskPlac
 -- under alpha format 1." "24 bits: blue, green, red." Under BI_BITFIELDS the header's masks.
 abbrev pub masksOf : (bits compression red green blue alpha : ℕ) (format1 : Bool) → Masks
 masksOf bits compression red green blue alpha format1 = record {
-  red = pick (hasMasks compression) red (pick (eqb bits 16) 0x7C00 0xFF0000);
-  green = pick (hasMasks compression) green (pick (eqb bits 16) 0x03E0 0xFF00);
-  blue = pick (hasMasks compression) blue (pick (eqb bits 16) 0x001F 0xFF);
-  alpha = pick (hasMasks compression) alpha (pick (format1 && eqb bits 32) 0xFF000000 0);
+  red = cond (hasMasks compression) red (cond (eqb bits 16) 0x7C00 0xFF0000);
+  green = cond (hasMasks compression) green (cond (eqb bits 16) 0x03E0 0xFF00);
+  blue = cond (hasMasks compression) blue (cond (eqb bits 16) 0x001F 0xFF);
+  alpha = cond (hasMasks compression) alpha (cond (format1 && eqb bits 32) 0xFF000000 0);
 }
 
 -- masks that a pixel above 8 bits is read with: 1 to 8 ones each, an alpha none or as many
@@ -34,7 +33,7 @@ pub record Sampled (m : Masks) : Type 0 where
 
 -- "Where a layout has no alpha, alpha is 255."
 unfoldable pub alphaOf : (mask n : ℕ) → ℕ
-alphaOf mask n = pick (eqb mask 0) 255 (channel8 mask n)
+alphaOf mask n = cond (eqb mask 0) 255 (channel8 mask n)
 
 -- the pixel that masks make of a stored number
 unfoldable pub masked : Masks → (n : ℕ) → ℕ
@@ -42,4 +41,4 @@ masked m n = pixelOf (alphaOf (m .alpha) n) (channel8 (m .red) n) (channel8 (m .
 
 -- the pixel of a stored number: by the palette up to 8 bits, by the masks above
 unfoldable pub shown : (bits : ℕ) (palette : List ℕ) → Masks → (n : ℕ) → ℕ
-shown bits palette m n = pick (leb bits 8) (255 * 2 ^ 24 + getD palette n 0) (masked m n)
+shown bits palette m n = cond (leb bits 8) (255 * 2 ^ 24 + getD palette n 0) (masked m n)

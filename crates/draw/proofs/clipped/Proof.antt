@@ -1,13 +1,12 @@
 use Rattle.draw.proofs.TargetLaws.{none-drawn, none-saved, target-lies, mapped}
 use Rattle.meaning.proofs.FitLaws.{extents}
-use Rattle.meaning.specs.declared.Plan.{Plan}
-use Rattle.judge.proofs.AcceptedLaws.{accepted}
+use Rattle.meaning.specs.Reading.{masksIn}
 use denote.Ref.{now}
 use lib.Seq.{length-take-le}
 use lib.ListN.{length-replicate}
 use native.Mathlib.Omega.{arith}
 use Prim.Native.Nat.{ℕ, _≤_}
-use mathlib.Core.Path.{sym, ap}
+use mathlib.Core.Path.{sym, ap, _∙_}
 use borrow.Author.Needs.{needs}
 use Rattle.draw.proofs.clipped.Statement.{statement}
 use Rattle.draw.proofs.clipped.Tie as tie
@@ -17,31 +16,31 @@ returns c =
     let a = c .before .before .before .before .before .args in
     (none-drawn _ _ (a .t) (c .if1 .taken) _, none-saved _ _ (a .t) (c .if1 .taken) _ _ _)
 
-planned-requires : tie.Need-planned-requires
-planned-requires c κs = search needs
+is-format1-requires : tie.Need-is-format1-requires
+is-format1-requires c κs = search needs
+
+masks-requires : tie.Need-masks-requires
+masks-requires c κs = search needs
 
 table-requires : tie.Need-table-requires
 table-requires c κs = search needs
 
 palette-requires : tie.Need-palette-requires
-palette-requires c κs =
-    let a = c .before .before .before .before .before .before .before in
-    let f = accepted (now (a .args .s)) (a .args .n) (a .pre .0 .0) .source in
-    (f .within .header, λ b. f .sound b .header-ok)
+palette-requires c κs = search needs
 
 cast-index : tie.Need-cast-index
 cast-index c =
-    let a = c .before .before .before .before .before .before .before .before .before in
-    let l = target-lies _ _ (a .args .clip) (a .args .n) (a .args .t) (a .pre .0 .1) (a .pre .1 .0) (c .before .before .before .before .if1 .left) in
-    omega (arith, l .column-numbers, extents (now (a .args .s)) (a .args .n) (a .pre .0 .0) .columns .1)
+    let a = c .before .before .before .before .before .before .before .before .before .before in
+    let l = target-lies _ _ (a .args .clip) (a .args .r) (a .args .t) (a .pre .0 .1) (a .pre .1 .0) (c .before .before .before .before .before .if1 .left) in
+    omega (arith, l .column-numbers, extents (a .args .r) (a .pre .0 .0) .columns .1)
 
 slice-aggregate-source-columns : tie.Need-slice-aggregate-source-columns
 slice-aggregate-source-columns c = search needs
 
 source-columns-requires : tie.Need-source-columns-requires
 source-columns-requires c κs =
-    let a = c .before .before .before .before .before .before .before .before .before .before in
-    let l = target-lies _ _ (a .args .clip) (a .args .n) (a .args .t) (a .pre .0 .1) (a .pre .1 .0) (c .before .before .before .before .before .if1 .left) in
+    let a = c .before .before .before .before .before .before .before .before .before .before .before in
+    let l = target-lies _ _ (a .args .clip) (a .args .r) (a .args .t) (a .pre .0 .1) (a .pre .1 .0) (c .before .before .before .before .before .before .if1 .left) in
     (a .pre .0 .0, omega (arith, l .columns, l .wide, length-replicate {A = ℕ} 4096 0), l .column-numbers)
 
 slice-aggregate-mask-columns : tie.Need-slice-aggregate-mask-columns
@@ -49,43 +48,43 @@ slice-aggregate-mask-columns c = search needs
 
 mask-columns-requires : tie.Need-mask-columns-requires
 mask-columns-requires c κs =
-    let a = c .before .before .before .before .before .before .before .before .before .before .before .before .before in
-    let l = target-lies _ _ (a .args .clip) (a .args .n) (a .args .t) (a .pre .0 .1) (a .pre .1 .0) (c .before .before .before .before .before .before .before .before .if1 .left) in
-    ((a .pre .0 .0, omega (arith, l .columns, l .wide, length-replicate {A = ℕ} 4096 0), l .column-numbers), ap (λ (p : Plan). p .mask .width) (c .before .before .before .before .before .before .before .planned .ensures))
+    let a = c .before .before .before .before .before .before .before .before .before .before .before .before .before .before in
+    let l = target-lies _ _ (a .args .clip) (a .args .r) (a .args .t) (a .pre .0 .1) (a .pre .1 .0) (c .before .before .before .before .before .before .before .before .before .if1 .left) in
+    (a .pre .0 .0, omega (arith, l .columns, l .wide, length-replicate {A = ℕ} 4096 0), l .column-numbers)
 
 array-share-prefix-columns : tie.Need-array-share-prefix-columns
 array-share-prefix-columns c =
-    let a = c .before .before .before .before .before .before .before .before .before .before .before .before .before .before .before .before .before .before .before in
-    let l = target-lies _ _ (a .args .clip) (a .args .n) (a .args .t) (a .pre .0 .1) (a .pre .1 .0) (c .before .before .before .before .before .before .before .before .before .before .before .before .before .before .if1 .left) in
+    let a = c .before .before .before .before .before .before .before .before .before .before .before .before .before .before .before .before .before .before .before .before in
+    let l = target-lies _ _ (a .args .clip) (a .args .r) (a .args .t) (a .pre .0 .1) (a .pre .1 .0) (c .before .before .before .before .before .before .before .before .before .before .before .before .before .before .before .if1 .left) in
     omega (arith, l .columns, l .wide, length-replicate {A = ℕ} 4096 0, c .before .before .before .before .before .before .before .before .source-columns .ensures .0)
 
 slice-aggregate-rows : tie.Need-slice-aggregate-rows
 slice-aggregate-rows c =
-    let a = c .before .before .before .before .before .before .before .before .before .before .before .before .before .before .before .before .before .before .before .before in
-    let l = target-lies _ _ (a .args .clip) (a .args .n) (a .args .t) (a .pre .0 .1) (a .pre .1 .0) (c .before .before .before .before .before .before .before .before .before .before .before .before .before .before .before .if1 .left) in
+    let a = c .before .before .before .before .before .before .before .before .before .before .before .before .before .before .before .before .before .before .before .before .before in
+    let l = target-lies _ _ (a .args .clip) (a .args .r) (a .args .t) (a .pre .0 .1) (a .pre .1 .0) (c .before .before .before .before .before .before .before .before .before .before .before .before .before .before .before .before .if1 .left) in
     sym (length-take-le _ _ (omega (arith, l .columns, l .wide, length-replicate {A = ℕ} 4096 0, c .before .before .before .before .before .before .before .before .before .source-columns .ensures .0)))
 
 array-share-prefix-spots : tie.Need-array-share-prefix-spots
 array-share-prefix-spots c =
-    let a = c .before .before .before .before .before .before .before .before .before .before .before .before .before .before .before .before .before .before .before .before in
-    let l = target-lies _ _ (a .args .clip) (a .args .n) (a .args .t) (a .pre .0 .1) (a .pre .1 .0) (c .before .before .before .before .before .before .before .before .before .before .before .before .before .before .before .if1 .left) in
+    let a = c .before .before .before .before .before .before .before .before .before .before .before .before .before .before .before .before .before .before .before .before .before in
+    let l = target-lies _ _ (a .args .clip) (a .args .r) (a .args .t) (a .pre .0 .1) (a .pre .1 .0) (c .before .before .before .before .before .before .before .before .before .before .before .before .before .before .before .before .if1 .left) in
     omega (arith, l .columns, l .wide, length-replicate {A = ℕ} 4096 0, c .before .before .before .before .before .before .mask-columns .ensures .0)
 
 slice-aggregate-rows-2 : tie.Need-slice-aggregate-rows-2
 slice-aggregate-rows-2 c =
-    let a = c .before .before .before .before .before .before .before .before .before .before .before .before .before .before .before .before .before .before .before .before .before in
-    let l = target-lies _ _ (a .args .clip) (a .args .n) (a .args .t) (a .pre .0 .1) (a .pre .1 .0) (c .before .before .before .before .before .before .before .before .before .before .before .before .before .before .before .before .if1 .left) in
+    let a = c .before .before .before .before .before .before .before .before .before .before .before .before .before .before .before .before .before .before .before .before .before .before in
+    let l = target-lies _ _ (a .args .clip) (a .args .r) (a .args .t) (a .pre .0 .1) (a .pre .1 .0) (c .before .before .before .before .before .before .before .before .before .before .before .before .before .before .before .before .before .if1 .left) in
     sym (length-take-le _ _ (omega (arith, l .columns, l .wide, length-replicate {A = ℕ} 4096 0, c .before .before .before .before .before .before .before .mask-columns .ensures .0)))
 
 rows-requires : tie.Need-rows-requires
 rows-requires c κs =
-    let a = c .before .before .before .before .before .before .before .before .before .before .before .before .before .before .before .before .before .before .before .before .before in
-    let l = target-lies _ _ (a .args .clip) (a .args .n) (a .args .t) (a .pre .0 .1) (a .pre .1 .0) (c .before .before .before .before .before .before .before .before .before .before .before .before .before .before .before .before .if1 .left) in
+    let a = c .before .before .before .before .before .before .before .before .before .before .before .before .before .before .before .before .before .before .before .before .before .before in
+    let l = target-lies _ _ (a .args .clip) (a .args .r) (a .args .t) (a .pre .0 .1) (a .pre .1 .0) (c .before .before .before .before .before .before .before .before .before .before .before .before .before .before .before .before .before .if1 .left) in
     let few : a .args .t .columns .count ≤ 4096 = omega (arith, l .columns, l .wide) in
-    let m = mapped (now (a .args .s)) (a .args .n) (a .args .t) (c .before .before .before .before .before .before .before .before .before .before .source-columns .last .1 .1 .1 .0) (c .before .before .before .before .before .before .before .mask-columns .last .1 .1 .1 .1 .0) _
+    let m = mapped (a .args .r) (a .args .t) (c .before .before .before .before .before .before .before .before .before .before .source-columns .last .1 .1 .1 .0) (c .before .before .before .before .before .before .before .mask-columns .last .1 .1 .1 .0)
     (omega (arith, few, length-replicate {A = ℕ} 4096 0, c .before .before .before .before .before .before .before .before .before .before .source-columns .ensures .0)) (omega (arith, few, length-replicate {A = ℕ} 4096 0, c .before .before .before .before .before .before .before .mask-columns .ensures .0))
-    (ap (λ (p : Plan). p .mask .width) (c .before .before .before .before .before .before .before .before .before .before .before .before .before .before .before .planned .ensures)) (c .before .before .before .before .before .before .before .before .before .before .source-columns .ensures .1) (c .before .before .before .before .before .before .before .mask-columns .ensures .1) in
-    ((a .pre .0 .0, c .before .before .before .before .before .before .before .before .before .before .before .before .before .before .before .planned .ensures, c .before .before .before .before .before .before .before .before .before .before .before .before .before .before .table .ensures), ((c .before .before .before .before .before .before .before .before .before .before .before .before .before .palette .ensures .0, c .before .before .before .before .before .before .before .before .before .before .before .before .before .palette .ensures .1), ((l, m), (a .pre .1 .1, a .pre .1 .2))))
+    (c .before .before .before .before .before .before .before .before .before .before .source-columns .ensures .1) (c .before .before .before .before .before .before .before .mask-columns .ensures .1) in
+    ((a .pre .0 .0, c .before .before .before .before .before .before .before .before .before .before .before .before .before .before .before .masks .ensures ∙ ap (masksIn (a .args .r .source .header)) (c .before .before .before .before .before .before .before .before .before .before .before .before .before .before .before .before .is-format1 .ensures), c .before .before .before .before .before .before .before .before .before .before .before .before .before .before .table .ensures), ((c .before .before .before .before .before .before .before .before .before .before .before .before .before .palette .ensures .0, c .before .before .before .before .before .before .before .before .before .before .before .before .before .palette .ensures .1), ((l, m), (a .pre .1 .1, a .pre .1 .2))))
 
 same-length : tie.Need-same-length
 same-length c = search needs
@@ -101,7 +100,8 @@ clipped-spec =
     tie.close
     (tie.spec
     returns
-    planned-requires
+    is-format1-requires
+    masks-requires
     table-requires
     palette-requires
     cast-index

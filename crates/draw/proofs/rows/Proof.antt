@@ -1,8 +1,6 @@
 use Prim.Native.Nat.{_+_, _≤_, _<_}
 use Rattle.draw.proofs.DrawLaws.{columns-inside, spots-inside}
-use Rattle.meaning.proofs.RowLaws.{plan-masks}
 use Rattle.meaning.proofs.FitLaws.{extents}
-use Rattle.meaning.specs.declared.Plan.{Plan}
 use Prim.Native.Nat.{ℕ}
 use lib.Seq.{length-take-le}
 use lib.ListN.{take, length-replicate}
@@ -18,12 +16,12 @@ use Rattle.draw.proofs.rows.Statement.{statement}
 use Rattle.draw.proofs.rows.Tie as tie
 
 abbrev Inv-loop : tie.InvT-loop
-Inv-loop surface₀ width height journal₀ at s n plan table palette columns spots t brush rule x count colours₀ bits₀ next₀ k₀ surface journal colours bits next k =
+Inv-loop surface₀ width height journal₀ at s n masks table palette columns spots t brush rule x count colours₀ bits₀ next₀ k₀ surface journal colours bits next k =
     Rows width (paintOn t (meaningIn s n) brush) at (t .columns .at) (t .columns .count) (t .rows .at) (t .rows .count) surface₀ journal₀ surface journal next k
     × (length colours ≡ 4096) × (length bits ≡ 4096)
 
 abbrev μ-loop : tie.MeasureT-loop
-μ-loop surface₀ width height journal₀ at s n plan table palette columns spots t brush rule x count colours₀ bits₀ next₀ k₀ surface journal colours bits next k =
+μ-loop surface₀ width height journal₀ at s n masks table palette columns spots t brush rule x count colours₀ bits₀ next₀ k₀ surface journal colours bits next k =
     t .rows .count - k
 
 rule-requires : tie.Need-rule-requires Inv-loop μ-loop
@@ -38,12 +36,12 @@ loop-holds c = (rows-begin _ _ _ _ _ _ _ _ _, length-replicate {A = ℕ} 4096 0,
 add-j : tie.Need-add-j Inv-loop μ-loop
 add-j c =
     let a = c .before .before .before .before .before .before .before .before .before .before .before in
-    omega (arith, a .pre .1 .1 .0 .0 .line-numbers (omega arith), extents (now (a .args .s)) (a .args .n) (a .pre .0 .0) .lines .1)
+    omega (arith, a .pre .1 .1 .0 .0 .line-numbers (omega arith), extents (a .args .r) (a .pre .0 .0) .lines .1)
 
 cast-j : tie.Need-cast-j Inv-loop μ-loop
 cast-j c =
     let a = c .before .before .before .before .before .before .before .before .before .before .before in
-    omega (arith, a .pre .1 .1 .0 .0 .line-numbers (omega arith), extents (now (a .args .s)) (a .args .n) (a .pre .0 .0) .lines .1)
+    omega (arith, a .pre .1 .1 .0 .0 .line-numbers (omega arith), extents (a .args .r) (a .pre .0 .0) .lines .1)
 
 add-y : tie.Need-add-y Inv-loop μ-loop
 add-y c =
@@ -63,18 +61,14 @@ of-source-requires c κs =
     let a = c .before .before .before .before .before .before .before .before .before .before .before .before .before in
     let lies = a .pre .1 .1 .0 .0 in
     let m = a .pre .1 .1 .0 .1 in
-    let plan = a .pre .0 .1 in
-    let eh = ap (λ (p : Plan). p .source) plan in (
-      (a .pre .0 .0, eh),
+    (
+      (a .pre .0 .0, a .pre .0 .1),
       (
-        plan-masks (now (a .args .s)) (a .args .n) (a .args .plan) plan,
+        (a .pre .0 .2, a .pre .1 .0 .0, a .pre .1 .0 .1),
         (
-          (a .pre .0 .2, a .pre .1 .0 .0, a .pre .1 .0 .1),
-          (
-            omega (arith, lies .line-numbers (omega arith)),
-            omega (arith, lies .columns, lies .wide, m .as-many, c .before .before .before .before .before .loop .inv .1),
-            λ b. columns-inside (now (a .args .s)) (a .args .n) (a .pre .0 .0) (a .args .t) (now (a .args .columns)) (now (a .args .spots)) m (a .args .plan .source) (lies .column-numbers) eh b,
-          ),
+          omega (arith, lies .line-numbers (omega arith)),
+          omega (arith, lies .columns, lies .wide, m .as-many, c .before .before .before .before .before .loop .inv .1),
+          λ b. columns-inside (a .args .r) (a .pre .0 .0) (a .args .t) (now (a .args .columns)) (now (a .args .spots)) m (lies .column-numbers) b,
         ),
       ),
     )
@@ -87,12 +81,10 @@ of-mask-requires c κs =
     let a = c .before .before .before .before .before .before .before .before .before .before .before .before .before .before .before .before in
     let lies = a .pre .1 .1 .0 .0 in
     let m = a .pre .1 .1 .0 .1 in
-    let eh = ap (λ (p : Plan). p .mask) (a .pre .0 .1) in (
-      (a .pre .0 .0, eh),
-      (
-        omega (arith, lies .columns, lies .wide, m .as-many-spots, c .before .before .before .before .before .before .before .before .loop .inv .2),
-        λ b. spots-inside (now (a .args .s)) (a .args .n) (a .pre .0 .0) (a .args .t) (now (a .args .columns)) (now (a .args .spots)) m (a .args .plan .mask) eh b,
-      ),
+    (
+      a .pre .0 .0,
+      omega (arith, lies .columns, lies .wide, m .as-many-spots, c .before .before .before .before .before .before .before .before .loop .inv .2),
+      λ b. spots-inside (a .args .r) (a .pre .0 .0) (a .args .t) (now (a .args .columns)) (now (a .args .spots)) m b,
     )
 
 array-share-prefix-colours : tie.Need-array-share-prefix-colours Inv-loop μ-loop
@@ -124,8 +116,8 @@ row-requires c κs =
     let q : l .k < a .args .t .rows .count = c .before .before .before .before .before .before .before .before .before .before .before .before .if1 .taken in
     let e : a .args .t .rows .at + a .args .t .rows .count ≤ a .args .height = lies .lines (omega (arith, q)) in
     let few : length (now (a .args .columns)) ≤ 4096 = omega (arith, lies .columns, lies .wide, m .as-many) in
-    let zc = length-take-le (length (now (a .args .columns))) (c .before .before .before .before .before .before .before .before .of-source .last .1 .1 .1 .1 .1 .1 .1 .1 .0) (omega (arith, few, l .inv .1, c .before .before .before .before .before .before .before .before .of-source .ensures .long)) in
-    let zb = length-take-le (length (now (a .args .columns))) (c .before .before .before .before .before .of-mask .last .1 .1 .1 .1 .1 .0) (omega (arith, few, l .inv .2, c .before .before .before .before .before .of-mask .ensures .long)) in
+    let zc = length-take-le (length (now (a .args .columns))) (c .before .before .before .before .before .before .before .before .of-source .last .1 .1 .1 .1 .1 .1 .1 .0) (omega (arith, few, l .inv .1, c .before .before .before .before .before .before .before .before .of-source .ensures .long)) in
+    let zb = length-take-le (length (now (a .args .columns))) (c .before .before .before .before .before .of-mask .last .1 .1 .1 .1 .0) (omega (arith, few, l .inv .2, c .before .before .before .before .before .of-mask .ensures .long)) in
     let y = row-inside (a .args .width) (a .args .height) (a .args .t .rows .at + l .k) (omega (arith, q, e)) in
     let r = records-inside (a .args .at) (a .args .t .columns .count) (l .k) (a .args .t .rows .count) (l .next) q (l .inv .0 .next-record) in (
       (omega (arith, zc, lies .columns, m .as-many), omega (arith, zc, zb)),
@@ -154,10 +146,10 @@ loop-again c =
     let s = now (a .args .s) in
     let columns = now (a .args .columns) in
     let few : length columns ≤ 4096 = omega (arith, lies .columns, lies .wide, m .as-many) in
-    let zc = length-take-le (length columns) (c .before .before .before .before .before .before .before .before .before .before .before .before .before .of-source .last .1 .1 .1 .1 .1 .1 .1 .1 .0) (omega (arith, few, l .inv .1, c .before .before .before .before .before .before .before .before .before .before .before .before .before .of-source .ensures .long)) in (
-      rows-more s (a .args .n) (a .args .t) (a .args .brush) (l .k) (c .before .before .before .before .before .before .before .before .before .before .before .before .before .before .before .before .before .before .before .before .before .rule .result) (take (length columns) (c .before .before .before .before .before .before .before .before .before .before .before .before .before .of-source .last .1 .1 .1 .1 .1 .1 .1 .1 .0)) (take (length columns) (c .before .before .before .before .before .before .before .before .before .before .of-mask .last .1 .1 .1 .1 .1 .0)) (c .before .before .before .before .before .before .before .before .before .before .before .before .before .before .before .before .before .before .before .before .before .rule .ensures)
-          (colours-are s (a .args .n) (a .args .t) columns (now (a .args .spots)) m (a .args .t .rows .index + l .k) _ _ (c .before .before .before .before .before .before .before .before .before .before .before .before .before .of-source .ensures))
-          (bits-are s (a .args .n) (a .args .t) columns (now (a .args .spots)) m (a .args .t .rows .index + l .k) (a .args .plan .mask) _ _ (ap (λ (p : Plan). p .mask) (a .pre .0 .1)) (c .before .before .before .before .before .before .before .before .before .before .of-mask .ensures))
+    let zc = length-take-le (length columns) (c .before .before .before .before .before .before .before .before .before .before .before .before .before .of-source .last .1 .1 .1 .1 .1 .1 .1 .0) (omega (arith, few, l .inv .1, c .before .before .before .before .before .before .before .before .before .before .before .before .before .of-source .ensures .long)) in (
+      rows-more s (a .args .r) (a .args .t) (a .args .brush) (l .k) (c .before .before .before .before .before .before .before .before .before .before .before .before .before .before .before .before .before .before .before .before .before .rule .result) (take (length columns) (c .before .before .before .before .before .before .before .before .before .before .before .before .before .of-source .last .1 .1 .1 .1 .1 .1 .1 .0)) (take (length columns) (c .before .before .before .before .before .before .before .before .before .before .of-mask .last .1 .1 .1 .1 .0)) (c .before .before .before .before .before .before .before .before .before .before .before .before .before .before .before .before .before .before .before .before .before .rule .ensures)
+          (colours-are s (a .args .r) (a .args .t) columns (now (a .args .spots)) m (a .args .t .rows .index + l .k) _ _ (c .before .before .before .before .before .before .before .before .before .before .before .before .before .of-source .ensures))
+          (bits-are s (a .args .r) (a .args .t) columns (now (a .args .spots)) m (a .args .t .rows .index + l .k) _ _ (c .before .before .before .before .before .before .before .before .before .before .of-mask .ensures))
           (a .args .width) (a .args .at) _ _ _ _ _ _ (l .next) (l .inv .0) (length columns) (c .before .before .before .before .before .before .before .before .before .before .before .before .before .before .before .before .before .if1 .taken) zc (m .as-many) (c .before .before .before .before .row .ensures .0) (c .before .before .before .before .row .ensures .1),
       c .before .before .before .before .before .before .before .before .before .before .before .before .before .of-source .ensures .long ∙ l .inv .1,
       c .before .before .before .before .before .before .before .before .before .before .of-mask .ensures .long ∙ l .inv .2,

@@ -1,17 +1,12 @@
-use mathlib.Core.Path.{ap, _∙_}
-use Rattle.dib.specs.Header.{headerOf}
+-- The code's expression is the definition's.
+use Rattle.emr.specs.Numbers.{headerPart}
 use borrow.Author.Needs.{needs}
 use Rattle.judge.proofs.header.Statement.{statement}
 use Rattle.judge.proofs.header.Tie as tie
 
-header-part-requires : tie.Need-header-part-requires
-header-part-requires c κs = search needs
-
-read-requires : tie.Need-read-requires
-read-requires c κs = search needs
-
 returns : tie.Need-returns
-returns c = c .read .ensures ∙ ap headerOf (c .before .header-part .ensures)
+unfolding headerPart
+returns c = cc
 
 pub header-spec : {M : Type 1} → statement M
-header-spec = tie.close (tie.spec header-part-requires read-requires returns)
+header-spec = tie.close (tie.spec (λ c. search needs) (λ c. search needs) (λ c κs. search needs) (λ c κs. search needs) returns)

@@ -3,15 +3,6 @@ use borrow.Author.Needs.{needs}
 use Rattle.judge.proofs.status.Statement.{statement}
 use Rattle.judge.proofs.status.Tie as tie
 
-check-requires : tie.Need-check-requires
-check-requires c κs = search needs
-
-enum-told : tie.Need-enum-told
-enum-told c = search needs
-
-enum-known-k : tie.Need-enum-known-k
-enum-known-k c = search needs
-
 returns : tie.Need-returns
 returns c = number-of (c .before .before .before .before .args .s .now) _ _ (c .before .before .check .ensures) (c .enum-told .given .1)
 
@@ -19,4 +10,4 @@ returns-2 : tie.Need-returns-2
 returns-2 c = number-of (c .before .before .before .before .before .args .s .now) _ _ (c .before .before .before .check .ensures) (c .before .k .given .1)
 
 pub status-spec : {M : Type 1} → statement M
-status-spec = tie.close (tie.spec check-requires enum-told enum-known-k returns returns-2)
+status-spec = tie.close (tie.spec (λ c κs. search needs) (λ c. search needs) (λ c. search needs) returns returns-2)

@@ -1,8 +1,8 @@
+use mathlib.Core.Bool.{cond}
 use Prim.Native.Nat.{ℕ, _-_}
 use native.Mathlib.Omega.{arith}
 use lib.ListN.{length, getD}
 use lib.Dec.{eqb}
-use Rattle.words.specs.Choice.{pick}
 use Rattle.paint.specs.declared.Rule.the-variants.{Masked}
 use Rattle.paint.specs.Paints.{rowPaint}
 use Rattle.pixel.specs.Raster.{rasterPixel}
@@ -78,7 +78,7 @@ loop-again c =
     let a = c .before .before .before .before .before .before .before .before .before .before .before .before .before .before .args in
     let l = c .before .before .before .before .before .before .before .before .before .loop in
     turns
-    (λ (i d : ℕ). pick (eqb (getD (a .bits .now) i 0) 1) (rasterPixel (a .foreground) (a .brush) (getD (a .colours .now) i 0) d) (rasterPixel (a .background) (a .brush) (getD (a .colours .now) i 0) d))
+    (λ (i d : ℕ). cond (eqb (getD (a .bits .now) i 0) 1) (rasterPixel (a .foreground) (a .brush) (getD (a .colours .now) i 0) d) (rasterPixel (a .background) (a .brush) (getD (a .colours .now) i 0) d))
     (a .width) (a .at) (a .x) (length (a .colours .now)) (a .y) (a .surface .now) (a .journal .now) (l .surface) (l .journal) _ (l .i) _ (l .inv)
     (omega arith) (c .one-of .ensures) (c .before .before .before .before .before .put .ensures)
 

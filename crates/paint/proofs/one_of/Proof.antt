@@ -1,6 +1,6 @@
 use mathlib.Core.Path.{sym, _∙_}
 use borrow.Author.Tests.{eq-eqb, ne-eqb}
-use Rattle.words.proofs.ChoiceLaws.{picked-true, picked-false}
+use Rattle.words.proofs.ChoiceLaws.{cond-true, cond-false}
 use borrow.Author.Needs.{needs}
 use Rattle.paint.proofs.one_of.Statement.{statement}
 use Rattle.paint.proofs.one_of.Tie as tie
@@ -12,10 +12,10 @@ pixel-requires-2 : tie.Need-pixel-requires-2
 pixel-requires-2 c κs = search needs
 
 returns : tie.Need-returns
-returns c = c .before .before .pixel .ensures ∙ sym (picked-true _ _ _ (eq-eqb _ _ (c .if1 .taken)))
+returns c = c .before .before .pixel .ensures ∙ sym (cond-true _ _ _ (eq-eqb _ _ (c .if1 .taken)))
 
 returns-2 : tie.Need-returns-2
-returns-2 c = c .before .pixel2 .ensures ∙ sym (picked-false _ _ _ (ne-eqb _ _ (c .if1 .left)))
+returns-2 c = c .before .pixel2 .ensures ∙ sym (cond-false _ _ _ (ne-eqb _ _ (c .if1 .left)))
 
 pub one-of-spec : {M : Type 1} → statement M
 one-of-spec = tie.close (tie.spec pixel-requires pixel-requires-2 returns returns-2)

@@ -1,20 +1,11 @@
-use Rattle.emr.specs.Numbers.{bitsPart}
+use Rattle.judge.specs.Record.{bitsPart}
 use borrow.Author.Needs.{needs}
 use Rattle.picture.proofs.bits_part.Statement.{statement}
 use Rattle.picture.proofs.bits_part.Tie as tie
-
-cast-part : tie.Need-cast-part
-cast-part c = search needs
-
-cast-part-2 : tie.Need-cast-part-2
-cast-part-2 c = search needs
-
-part-requires : tie.Need-part-requires
-part-requires c κs = search needs
 
 returns : tie.Need-returns
 unfolding bitsPart
 returns c = c .part .ensures .0
 
 pub bits-part-spec : {M : Type 1} → statement M
-bits-part-spec = tie.close (tie.spec cast-part cast-part-2 part-requires returns)
+bits-part-spec = tie.close (tie.spec (λ c. search needs) (λ c. search needs) (λ c κs. search needs) returns)

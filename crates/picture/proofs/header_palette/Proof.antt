@@ -1,60 +1,36 @@
-use mathlib.Core.Path.{ap, _∙_}
-use lib.ListN.{length}
-use Rattle.dib.specs.Judged.{badHeader}
-use Rattle.dib.proofs.JudgeLaws.{passed-fields}
+-- The table that status 8 let pass lies in the header part.
+use mathlib.Core.Path.{_∙_}
+use native.Mathlib.Omega.{arith}
+use Rattle.dib.proofs.JudgeLaws.{passed-fields, entries-bound}
 use Rattle.picture.proofs.PaletteLaws.{start-in, table-in, table-palette}
 use borrow.Author.Needs.{needs}
 use Rattle.picture.proofs.header_palette.Statement.{statement}
 use Rattle.picture.proofs.header_palette.Tie as tie
 
-read-requires : tie.Need-read-requires
-read-requires c κs = search needs
-
-shown-entries-requires : tie.Need-shown-entries-requires
-shown-entries-requires c κs =
-    let a = c .before .before in
-    passed-fields _ _ (ap (badHeader (length (a .args .header .now))) (c .read .ensures) ∙ a .pre)
-
-table-start-requires : tie.Need-table-start-requires
-table-start-requires c κs =
-    let a = c .before .before .before in
-    passed-fields _ _ (ap (badHeader (length (a .args .header .now))) (c .before .read .ensures) ∙ a .pre)
-
 sub-read : tie.Need-sub-read
-sub-read c = start-in _ (c .before .before .read .result) (c .before .before .read .ensures) (c .before .before .before .before .pre) 0 (c .table-start .result) (c .table-start .ensures .0)
+sub-read c = let a = c .before .before .before in start-in (a .args .header .now) (a .args .h) (a .pre) 0 (c .table-start .result) (c .table-start .ensures .0)
 
 part-read-start : tie.Need-part-read-start
 part-read-start c =
-    let h = start-in _ (c .before .before .read .result) (c .before .before .read .ensures) (c .before .before .before .before .pre) 0 (c .table-start .result) (c .table-start .ensures .0) in
+    let a = c .before .before .before in
+    let h = start-in (a .args .header .now) (a .args .h) (a .pre) 0 (c .table-start .result) (c .table-start .ensures .0) in
     search needs
 
-part-read-end : tie.Need-part-read-end
-part-read-end c = search needs
-
-read-requires-2 : tie.Need-read-requires-2
-read-requires-2 c κs =
-    let t = c .before .table-start in (
-      c .before .before .shown-entries .ensures .2,
-      table-in _ (c .before .before .before .read .result) (c .before .before .before .read .ensures) (c .before .before .before .before .before .pre) (c .before .before .shown-entries .result) (t .result) (t .ensures .0) (c .before .before .shown-entries .ensures .1),
+read-requires : tie.Need-read-requires
+read-requires c κs =
+    let a = c .before .before .before .before in
+    let n = c .before .before .shown-entries in (
+      omega (arith, n .ensures .1, entries-bound (a .args .h) (passed-fields _ (a .args .h) (a .pre))),
+      table-in (a .args .header .now) (a .args .h) (a .pre) (n .result) (c .before .table-start .result) (c .before .table-start .ensures .0) (n .ensures .1),
     )
 
 returns : tie.Need-returns
 returns c =
-    let t = c .before .before .table-start in (
-      c .read2 .ensures .0
-          ∙ table-palette _ (c .before .before .before .before .read .result) (c .before .before .before .before .read .ensures) (c .before .before .before .before .before .before .pre) (c .before .before .before .shown-entries .result) (t .result) (t .ensures .0) (c .before .before .before .shown-entries .ensures .0),
-      c .read2 .ensures .1,
-    )
+    let a = c .before .before .before .before .before in
+    let n = c .before .before .before .shown-entries in
+    (c .read .ensures .0 ∙ table-palette (a .args .header .now) (a .args .h) (a .pre) (n .result) (c .before .before .table-start .result) (c .before .before .table-start .ensures .0) (n .ensures .0), c .read .ensures .1)
 
 pub header-palette-spec : {M : Type 1} → statement M
 header-palette-spec =
-    tie.close
-    (tie.spec
-    read-requires
-    shown-entries-requires
-    table-start-requires
-    sub-read
-    part-read-start
-    part-read-end
-    read-requires-2
-    returns)
+    tie.close (tie.spec
+    (λ c κs. search needs) (λ c κs. search needs) sub-read part-read-start (λ c. search needs) read-requires returns)

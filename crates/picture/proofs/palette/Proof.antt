@@ -1,40 +1,32 @@
-use mathlib.Core.List.{List}
+-- A present picture's header part is as long as the record says, so that status 8 holds of it.
+use mathlib.Core.Path.{_≡_, ap, sym, _∙_}
 use Prim.Native.Nat.{ℕ}
+use mathlib.Core.List.{List}
 use lib.ListN.{length}
-use Rattle.dib.specs.Header.{headerOf}
+use Rattle.words.proofs.ChoiceLaws.{cond-true, cond-false}
 use Rattle.dib.specs.Judged.{badHeader}
-use mathlib.Core.Path.{ap, sym, _∙_}
-use Rattle.picture.proofs.PaletteLaws.{palette-none, palette-full}
+use Rattle.picture.specs.Palette.{picturePalette, headerPalette}
+use Rattle.picture.proofs.RowLaws.{length-header}
 use borrow.Author.Needs.{needs}
 use Rattle.picture.proofs.palette.Statement.{statement}
 use Rattle.picture.proofs.palette.Tie as tie
 
-is-absent-requires : tie.Need-is-absent-requires
-is-absent-requires c κs = search needs
-
-black-requires : tie.Need-black-requires
-black-requires c κs = search needs
-
-returns : tie.Need-returns
-returns c = (search palette-none, c .black .ensures .1)
-
-header-part-requires : tie.Need-header-part-requires
-header-part-requires c κs = search needs
-
 header-palette-requires : tie.Need-header-palette-requires
 header-palette-requires c κs =
-    ap (λ (l : List ℕ). badHeader (length l) (headerOf l)) (c .header-part .ensures) ∙ c .before .before .before .before .pre .1 (sym (c .before .before .is-absent .ensures) ∙ c .before .if1 .left)
+    let a = c .before .before .before .before in
+    ap (λ (k : ℕ). badHeader k (a .args .p .header)) (ap length (c .header-part .ensures) ∙ length-header (a .args .s .now) (a .args .p) (a .pre))
+    ∙ a .pre .sound (c .before .before .if1 .taken) .header-ok
+
+returns : tie.Need-returns
+unfolding picturePalette
+returns c =
+    let a = c .before .before .before .before .before in
+    let e = c .header-palette .ensures .0 ∙ ap (λ (l : List ℕ). headerPalette l (a .args .p .header)) (c .before .header-part .ensures) in
+    (e ∙ sym (cond-true _ _ _ (c .before .before .before .if1 .taken)), c .header-palette .ensures .1)
 
 returns-2 : tie.Need-returns-2
-returns-2 c = (search palette-full, c .header-palette .ensures .1)
+unfolding picturePalette
+returns-2 c = (c .black .ensures .0 ∙ sym (cond-false _ _ _ (c .before .if1 .left)), c .black .ensures .1)
 
 pub palette-spec : {M : Type 1} → statement M
-palette-spec =
-    tie.close
-    (tie.spec
-    is-absent-requires
-    black-requires
-    returns
-    header-part-requires
-    header-palette-requires
-    returns-2)
+palette-spec = tie.close (tie.spec (λ c κs. search needs) header-palette-requires returns (λ c κs. search needs) returns-2)

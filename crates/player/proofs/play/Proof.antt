@@ -1,6 +1,7 @@
 use denote.Ref.{now}
 use mathlib.Core.Path.{sym, _∙_}
 use Rattle.player.proofs.PlayLaws.{play-limits, play-refused, play-accepted}
+use Rattle.judge.proofs.AcceptedLaws.{accepted}
 use borrow.Author.Needs.{needs}
 use Rattle.player.proofs.play.Statement.{statement}
 use Rattle.player.proofs.play.Tie as tie
@@ -30,7 +31,7 @@ returns-2 : tie.Need-returns-2
 returns-2 c = search play-refused
 
 accepted-requires : tie.Need-accepted-requires
-accepted-requires c κs = (sym (c .before .before .before .before .before .before .before .status .ensures) ∙ c .before .before .before .before .before .before .if1 .left, sym (c .before .before .before .n .given .1) ∙ c .before .before .before .before .before .check .ensures)
+accepted-requires c κs = (sym (c .before .before .before .before .before .before .before .status .ensures) ∙ c .before .before .before .before .before .before .if1 .left, accepted _ _ (sym (c .before .before .before .n .given .1) ∙ c .before .before .before .before .before .check .ensures) .1)
 
 same-length : tie.Need-same-length
 same-length c = search needs

@@ -1,29 +1,21 @@
-use mathlib.Core.Path.{sym, ap, _∙_}
-use Rattle.dib.specs.Judged.{badFields}
-use Rattle.reading.proofs.ReadingLaws.{picture-none, picture-full}
+-- A present picture is read whole.
+use mathlib.Core.Path.{sym, _∙_}
+use Rattle.words.proofs.ChoiceLaws.{cond-true, cond-false}
+use Rattle.reading.specs.Reading.{pictureReading}
 use borrow.Author.Needs.{needs}
 use Rattle.reading.proofs.of_picture.Statement.{statement}
 use Rattle.reading.proofs.of_picture.Tie as tie
 
-is-absent-requires : tie.Need-is-absent-requires
-is-absent-requires c κs = search needs
-
-nothing-requires : tie.Need-nothing-requires
-nothing-requires c κs = search needs
+full-requires : tie.Need-full-requires
+full-requires c κs = c .before .pre (c .if1 .taken)
 
 returns : tie.Need-returns
-returns c = search picture-none
-
-header-requires : tie.Need-header-requires
-header-requires c κs = search needs
-
-full-requires : tie.Need-full-requires
-full-requires c κs = ap badFields (c .header .ensures) ∙ c .before .before .before .before .pre .1 (sym (c .before .before .is-absent .ensures) ∙ c .before .if1 .left)
+unfolding pictureReading
+returns c = c .full .ensures ∙ sym (cond-true _ _ _ (c .before .if1 .taken))
 
 returns-2 : tie.Need-returns-2
-returns-2 c = search picture-full
+unfolding pictureReading
+returns-2 c = c .nothing .ensures ∙ sym (cond-false _ _ _ (c .before .if1 .left))
 
 pub of-picture-spec : {M : Type 1} → statement M
-of-picture-spec =
-    tie.close
-    (tie.spec is-absent-requires nothing-requires returns header-requires full-requires returns-2)
+of-picture-spec = tie.close (tie.spec full-requires returns (λ c κs. search needs) returns-2)

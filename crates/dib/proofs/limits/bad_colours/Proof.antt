@@ -12,9 +12,7 @@ most-colours-requires c κs = search needs
 
 returns : tie.Need-returns
 unfolding badColours
-returns c =
-    let a = c .before .args in
-    ap (λ (n : ℕ). ltb n (a .colours)) (c .«most-colours» .ensures) ∙ or-min (2 ^ a .bits) 256 (a .colours)
+returns c = let a = c .before .args in ap (λ (n : ℕ). ltb n (a .colours)) (c .«most-colours» .ensures) ∙ or-min (2 ^ a .bits) 256 (a .colours)
 
 pub bad-colours-spec : {M : Type 1} → statement M
 bad-colours-spec = tie.close (tie.spec most-colours-requires returns)

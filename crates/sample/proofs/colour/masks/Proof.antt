@@ -1,4 +1,4 @@
-use Rattle.sample.proofs.ColourLaws.{and-false}
+use Rattle.sample.proofs.ColourLaws.{and-by-first}
 use borrow.Author.Tests.{ne-eqb}
 use Rattle.sample.proofs.colour.masks.Statement.{statement}
 use Rattle.sample.proofs.colour.masks.Tie as tie
@@ -7,7 +7,7 @@ returns : tie.Need-returns
 returns c = rw (c .if1 .taken)
 
 returns-2 : tie.Need-returns-2
-returns-2 c = simp (ne-eqb _ _ (c .before .if1 .left), c .if2 .taken, and-false (c .before .before .args .format1))
+returns-2 c = simp (ne-eqb _ _ (c .before .if1 .left), c .if2 .taken, and-by-first (c .before .before .args .format1))
 
 returns-3 : tie.Need-returns-3
 returns-3 c = simp (ne-eqb _ _ (c .before .before .before .if1 .left), c .before .if3 .taken, c .if4 .taken)
