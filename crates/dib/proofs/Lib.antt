@@ -1,1 +1,1 @@
-pub mod JudgeLaws
+pub mod HeaderLaws

@@ -5,15 +5,24 @@ use mathlib.Core.Bool.{Bool, cond, _&&_}
 use mathlib.Core.List.{List}
 use lib.Dec.{eqb, leb}
 use Rattle.words.specs.Bytes.{le16, le32, negative32, magnitude32}
+use Rattle.dib.specs.declared.Masks.{Masks}
 use Rattle.dib.specs.declared.Header.{Header}
 
 -- compression 3 is BI_BITFIELDS, 0 BI_RGB
 abbrev pub hasMasks : ℕ → Bool
 hasMasks compression = eqb compression 3
 
--- "size 0, width 4, height 8, planes 12, bits 14, compression 16, colours used 32; V4 masks red, green, blue, alpha at 40, 44, 48,
--- 52"; "With a 40-byte header, and only then, BI_BITFIELDS is followed by three masks": they stand at 40, 44, 48 as well. Width
--- and height are as written; a mask is 0 where the header has none.
+-- "V4 masks red, green, blue, alpha at 40, 44, 48, 52"; "With a 40-byte header, and only then, BI_BITFIELDS is followed by three
+-- masks": they stand at 40, 44, 48 as well. A mask is 0 where the header has none.
+abbrev pub masksAt : List ℕ → (compression size : ℕ) → Masks
+masksAt h compression size = record {
+  red = cond (hasMasks compression) (le32 h 40) 0;
+  green = cond (hasMasks compression) (le32 h 44) 0;
+  blue = cond (hasMasks compression) (le32 h 48) 0;
+  alpha = cond (hasMasks compression && eqb size 108) (le32 h 52) 0;
+}
+
+-- "size 0, width 4, height 8, planes 12, bits 14, compression 16, colours used 32"; width and height are as written
 abbrev pub headerOf : List ℕ → Header
 headerOf h = record {
   size = le32 h 0;
@@ -23,10 +32,7 @@ headerOf h = record {
   bits = le16 h 14;
   compression = le32 h 16;
   colours = le32 h 32;
-  red = cond (hasMasks (le32 h 16)) (le32 h 40) 0;
-  green = cond (hasMasks (le32 h 16)) (le32 h 44) 0;
-  blue = cond (hasMasks (le32 h 16)) (le32 h 48) 0;
-  alpha = cond (hasMasks (le32 h 16) && eqb (le32 h 0) 108) (le32 h 52) 0;
+  masks = masksAt h (le32 h 16) (le32 h 0);
 }
 
 -- "Positive height: the last stored row is the top one."

@@ -3,11 +3,18 @@ ghost use mathlib.Core.Path.{_≡_};
 ghost use mathlib.Core.Bool.{false};
 ghost use Prim.Native.Nat.{_<_};
 ghost use lib.ListN.{length};
-ghost use Rattle.dib.specs.Header.{headerOf, topDown, tableStart, entries};
-ghost use Rattle.dib.specs.Judged.{badFields, badHeader, badMasks, bitsNeeded, dibStatus};
+ghost use Rattle.dib.specs.Header.{masksAt, headerOf, topDown, tableStart, entries};
+ghost use Rattle.dib.specs.HeaderStatus.{badFields, badHeader, badMasks, bitsNeeded, dibStatus};
 
-mod field;
 mod limits;
+
+// The masks of a pixel's channels. An alpha of 0 is none.
+pub struct Masks {
+    pub red: u32,
+    pub green: u32,
+    pub blue: u32,
+    pub alpha: u32,
+}
 
 // The header's numbers as written: width and height in two's complement. A mask is 0 where the header has none.
 pub struct Header {
@@ -18,10 +25,20 @@ pub struct Header {
     pub bits: u32,
     pub compression: u32,
     pub colours: u32,
-    pub red: u32,
-    pub green: u32,
-    pub blue: u32,
-    pub alpha: u32,
+    pub masks: Masks,
+}
+
+// The masks of a header part, which it has under BI_BITFIELDS only.
+fn read_masks(h: &[u8], compression: u32, size: u32) -> Masks
+    ensures { λ r. ⌜ r ≡ masksAt (now (h .entry)) compression size ⌝ }
+{
+    let fields = compression == 3;
+    Masks {
+        red: words::either(fields, words::read_u32(h, 40), 0),
+        green: words::either(fields, words::read_u32(h, 44), 0),
+        blue: words::either(fields, words::read_u32(h, 48), 0),
+        alpha: words::either(fields & (size == 108), words::read_u32(h, 52), 0),
+    }
 }
 
 // The numbers of any header part; a byte past its end reads as 0.
@@ -35,10 +52,7 @@ pub fn read(h: &[u8]) -> Header
     let bits = words::read_u16(h, 14);
     let compression = words::read_u32(h, 16);
     let colours = words::read_u32(h, 32);
-    let red = field::mask(h, compression, 40);
-    let green = field::mask(h, compression, 44);
-    let blue = field::mask(h, compression, 48);
-    let alpha = field::alpha(h, compression, size);
+    let masks = read_masks(h, compression, size);
     Header {
         size,
         width,
@@ -47,10 +61,7 @@ pub fn read(h: &[u8]) -> Header
         bits,
         compression,
         colours,
-        red,
-        green,
-        blue,
-        alpha,
+        masks,
     }
 }
 
@@ -94,9 +105,7 @@ fn bad_masks(h: Header) -> bool
     requires { ⌜ badFields h ≡ false ⌝ }
     ensures { λ r. ⌜ r ≡ badMasks h ⌝ }
 {
-    (h.compression == 3)
-        & (limits::bad_channels(h.bits, h.red, h.green, h.blue, h.alpha)
-            | limits::bad_overlaps(h.red, h.green, h.blue, h.alpha))
+    (h.compression == 3) & (limits::bad_channels(h.bits, h.masks) | limits::bad_overlaps(h.masks))
 }
 
 // Is the first stored row the top one?

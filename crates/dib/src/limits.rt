@@ -2,7 +2,8 @@
 ghost use mathlib.Core.Path.{_≡_};
 ghost use Prim.Native.Nat.{_^_, _≤_, min};
 ghost use Rattle.pixel.specs.Place.{isDepth};
-ghost use Rattle.dib.specs.Judged.{badSize, badCompression, badExtent, badColours, overlap as overlapOf, badChannels, badOverlaps};
+ghost use Rattle.dib.specs.HeaderStatus.{badSize, badCompression, badExtent, badColours, overlap as overlapOf, badChannels, badOverlaps};
+use crate::Masks;
 
 pub fn bad_size(size: u32) -> bool
     ensures { λ r. ⌜ r ≡ badSize size ⌝ }
@@ -47,23 +48,23 @@ fn overlap(a: u32, b: u32) -> bool
     a & b != 0
 }
 
-pub fn bad_channels(bits: u32, red: u32, green: u32, blue: u32, alpha: u32) -> bool
+pub fn bad_channels(bits: u32, m: Masks) -> bool
     requires { ⌜ bits ≤ 32 ⌝ }
-    ensures { λ r. ⌜ r ≡ badChannels bits red green blue alpha ⌝ }
+    ensures { λ r. ⌜ r ≡ badChannels bits m ⌝ }
 {
-    !pixel::masks::is_channel(bits, red)
-        | !pixel::masks::is_channel(bits, green)
-        | !pixel::masks::is_channel(bits, blue)
-        | !((alpha == 0) | pixel::masks::is_channel(bits, alpha))
+    !pixel::masks::is_channel(bits, m.red)
+        | !pixel::masks::is_channel(bits, m.green)
+        | !pixel::masks::is_channel(bits, m.blue)
+        | !((m.alpha == 0) | pixel::masks::is_channel(bits, m.alpha))
 }
 
-pub fn bad_overlaps(red: u32, green: u32, blue: u32, alpha: u32) -> bool
-    ensures { λ r. ⌜ r ≡ badOverlaps red green blue alpha ⌝ }
+pub fn bad_overlaps(m: Masks) -> bool
+    ensures { λ r. ⌜ r ≡ badOverlaps m ⌝ }
 {
-    overlap(red, green)
-        | overlap(red, blue)
-        | overlap(green, blue)
-        | overlap(alpha, red)
-        | overlap(alpha, green)
-        | overlap(alpha, blue)
+    overlap(m.red, m.green)
+        | overlap(m.red, m.blue)
+        | overlap(m.green, m.blue)
+        | overlap(m.alpha, m.red)
+        | overlap(m.alpha, m.green)
+        | overlap(m.alpha, m.blue)
 }

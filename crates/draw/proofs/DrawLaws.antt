@@ -14,7 +14,7 @@ use Rattle.words.proofs.ChoiceLaws.{cond-false}
 use Rattle.pixel.specs.Place.{maskPixel}
 use Rattle.pixel.proofs.PlaceLaws.{remainder-lt}
 use Rattle.dib.specs.Header.{rows}
-use Rattle.dib.proofs.JudgeLaws.{sound}
+use Rattle.dib.proofs.HeaderLaws.{sound}
 use Rattle.judge.specs.declared.Record.{Record}
 use Rattle.judge.specs.Good.{Good}
 use Rattle.region.specs.declared.Target.{Target}

@@ -1,4 +1,4 @@
-pub mod Places
+pub mod Types
 pub mod Transform
-pub mod Numbers
-pub mod Framed
+pub mod Fixed
+pub mod FrameStatus

@@ -29,4 +29,5 @@ transformOf s at = record {
 
 -- by IEEE's comparison
 abbrev pub isIdentity : Transform → Bool
-isIdentity x = eq (x .m11) one32 && (eq (x .m12) zero32 && (eq (x .m21) zero32 && (eq (x .m22) one32 && (eq (x .dx) zero32 && eq (x .dy) zero32))))
+isIdentity x =
+    eq (x .m11) one32 && eq (x .m12) zero32 && eq (x .m21) zero32 && eq (x .m22) one32 && eq (x .dx) zero32 && eq (x .dy) zero32

@@ -1,11 +1,20 @@
-// A record's frame: its byte places as one table, its fixed part as numbers, and statuses 3 to 7.
-pub mod fields;
-pub mod frame;
-pub mod table;
+// A record's frame: the table of types, its fixed part as fields, and statuses 3 to 7.
+use region::Rectangle;
+
+pub mod fixed;
+pub mod status;
+pub mod types;
 pub mod xform;
 
-// Where a type's fields stand; 0 where it has no such field.
-pub struct Places {
+// What a type's operation field holds: a blend, which needs a source always, or raster operations, which need one by their bytes.
+pub enum Form {
+    Blend,
+    Rop4,
+    Rop,
+}
+
+// The offsets of a type's fields; 0 where it has no such field. A type that does not stretch has its target's extent for its source's.
+pub struct Offsets {
     pub extent: usize,
     pub operation: usize,
     pub corner: usize,
@@ -15,6 +24,13 @@ pub struct Places {
     pub parts: usize,
     pub mask: usize,
     pub fixed: usize,
+}
+
+// A row of the table of types: where its fields stand, what its operation is, and whether its extents may be negative.
+pub struct Row {
+    pub at: Offsets,
+    pub form: Form,
+    pub signed: bool,
 }
 
 // XformSrc.
@@ -28,7 +44,8 @@ pub struct Transform {
 }
 
 // A picture's corner and usage, and where its header part and its bits part stand. The corner is in two's complement.
-pub struct Picture {
+pub struct PictureFields {
+    pub present: bool,
     pub x: u32,
     pub y: u32,
     pub usage: u32,
@@ -38,20 +55,16 @@ pub struct Picture {
     pub bits_len: u32,
 }
 
-// The numbers of a record's fixed part: Bounds, target, operation, source and mask. Signed ones are in two's complement.
-pub struct Numbers {
-    pub kind: u32,
-    pub left: u32,
-    pub top: u32,
-    pub right: u32,
-    pub bottom: u32,
+// The fields of a record's fixed part: Bounds, target, operation, source and mask. Signed ones are in two's complement.
+pub struct Fields {
+    pub bounds: Rectangle,
     pub x: u32,
     pub y: u32,
     pub cx: u32,
     pub cy: u32,
     pub operation: u32,
-    pub source: Picture,
+    pub source: PictureFields,
     pub cx_src: u32,
     pub cy_src: u32,
-    pub mask: Picture,
+    pub mask: PictureFields,
 }

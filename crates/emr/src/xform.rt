@@ -1,6 +1,6 @@
 // XformSrc as six floats.
 ghost use mathlib.Core.Path.{_≡_};
-ghost use Prim.Native.Nat.{_<_};
+ghost use Prim.Native.Nat.{_≤_};
 ghost use Rattle.emr.specs.Transform.{float32, transformOf, isIdentity};
 use crate::Transform;
 
@@ -17,7 +17,7 @@ fn float(s: &[u8], at: usize) -> f32
 }
 
 pub fn read(s: &[u8], at: usize) -> Transform
-    requires { ⌜ at < 4096 ⌝ }
+    requires { ⌜ at ≤ 128 ⌝ }
     ensures { λ r. ⌜ r ≡ transformOf (now (s .entry)) at ⌝ }
 {
     let m11 = float(s, at);
@@ -39,5 +39,5 @@ pub fn read(s: &[u8], at: usize) -> Transform
 pub fn is_identity(x: Transform) -> bool
     ensures { λ r. ⌜ r ≡ isIdentity x ⌝ }
 {
-    (x.m11 == 1.0) & ((x.m12 == 0.0) & ((x.m21 == 0.0) & ((x.m22 == 1.0) & ((x.dx == 0.0) & (x.dy == 0.0)))))
+    (x.m11 == 1.0) & (x.m12 == 0.0) & (x.m21 == 0.0) & (x.m22 == 1.0) & (x.dx == 0.0) & (x.dy == 0.0)
 }

@@ -1,3 +1,3 @@
-pub mod ActionLaws
+pub mod OperationLaws
 pub mod CheckLaws
 pub mod AcceptedLaws

@@ -1,7 +1,7 @@
 -- Document 01, refusal 12. Definitions only. Extents and corners are 32-bit words in two's complement.
 use Prim.Native.Nat.{ℕ, _+_}
 use mathlib.Core.Bool.{Bool, cond, not, _&&_, _||_}
-use lib.Dec.{eqb, ltb}
+use lib.Dec.{ltb}
 use Rattle.words.specs.Bytes.{negative32, magnitude32}
 
 -- an extent "without sign not 1..most"
@@ -20,9 +20,10 @@ sticksOut x cx n = negative32 x || cond (negative32 cx) (ltb x (magnitude32 cx) 
 abbrev pub badTarget : (x y cx cy : ℕ) → Bool
 badTarget x y cx cy = badSide 4096 cx || badSide 4096 cy || far x || far y
 
--- "negative extent in 0x72 or 0x4E"
-abbrev pub badSigns : (kind cx cy cxSrc cySrc : ℕ) → Bool
-badSigns kind cx cy cxSrc cySrc = not (eqb kind 0x51) && (negative32 cx || negative32 cy || negative32 cxSrc || negative32 cySrc)
+-- "negative extent in 0x72 or 0x4E": in a type whose extents may not be negative; an absent source's are not looked at
+abbrev pub badSigns : (signed present : Bool) (cx cy cxSrc cySrc : ℕ) → Bool
+badSigns signed present cx cy cxSrc cySrc =
+    not signed && (negative32 cx || negative32 cy || present && (negative32 cxSrc || negative32 cySrc))
 
 -- "present source extent without sign not 1..16,384"; its corner; "present source's rectangle not inside its picture"
 abbrev pub badSource : (x y cx cy width rows : ℕ) → Bool

@@ -3,19 +3,19 @@ use mathlib.Core.Path.{_≡_}
 use mathlib.Core.Bool.{true, false}
 use Prim.Native.Nat.{ℕ, _+_, _≤_}
 use Rattle.dib.specs.Header.{rows}
-use Rattle.dib.specs.Judged.{badHeader, badMasks, bitsNeeded}
-use Rattle.judge.specs.declared.Image.{Image}
+use Rattle.dib.specs.HeaderStatus.{badHeader, badMasks, bitsNeeded}
+use Rattle.judge.specs.declared.Picture.{Picture}
 use Rattle.judge.specs.declared.Record.{Record}
 use Rattle.judge.specs.Geometry.{badTarget, badSource}
 
 -- a picture that 8, 9 and 10 let pass
-pub record Dib (p : Image) : Type 0 where
+pub record Dib (p : Picture) : Type 0 where
   pub header-ok : badHeader (p .«bmi_len») (p .header) ≡ false
   pub masks-ok : badMasks (p .header) ≡ false
   pub rows-ok : bitsNeeded (p .header) ≤ p .«bits_len»
 
 -- a picture whose parts lie in a record of len bytes
-pub record Fit (len : ℕ) (p : Image) : Type 0 where
+pub record Fit (len : ℕ) (p : Picture) : Type 0 where
   pub header-in : p .bmi + p .«bmi_len» ≤ len
   pub bits-in : p .bits + p .«bits_len» ≤ len
   pub sound : p .present ≡ true → Dib p

@@ -2,4 +2,4 @@ pub mod Operation
 pub mod Geometry
 pub mod Record
 pub mod Good
-pub mod Judged
+pub mod Check

@@ -30,17 +30,23 @@ pub fn bad_target(x: u32, y: u32, cx: u32, cy: u32) -> bool
     bad_side(4096, cx) | bad_side(4096, cy) | far(x) | far(y)
 }
 
-pub fn bad_signs(kind: u32, cx: u32, cy: u32, sx: u32, sy: u32) -> bool
-    ensures { λ r. ⌜ r ≡ badSigns kind cx cy sx sy ⌝ }
+pub fn bad_signs(signed: bool, present: bool, cx: u32, cy: u32, sx: u32, sy: u32) -> bool
+    ensures { λ r. ⌜ r ≡ badSigns signed present cx cy sx sy ⌝ }
 {
-    (kind != 0x51)
-        & (words::is_negative(cx) | words::is_negative(cy) | words::is_negative(sx) | words::is_negative(sy))
+    let target = words::is_negative(cx) | words::is_negative(cy);
+    let source = words::is_negative(sx) | words::is_negative(sy);
+    !signed & (target | present & source)
 }
 
 pub fn bad_source(x: u32, y: u32, cx: u32, cy: u32, width: u32, rows: u32) -> bool
     ensures { λ r. ⌜ r ≡ badSource x y cx cy width rows ⌝ }
 {
-    bad_side(16384, cx) | bad_side(16384, cy) | far(x) | far(y) | sticks_out(x, cx, width) | sticks_out(y, cy, rows)
+    bad_side(16384, cx)
+        | bad_side(16384, cy)
+        | far(x)
+        | far(y)
+        | sticks_out(x, cx, width)
+        | sticks_out(y, cy, rows)
 }
 
 pub fn bad_corner(x: u32, y: u32) -> bool

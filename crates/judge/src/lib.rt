@@ -1,16 +1,17 @@
-// Statuses 8 to 13, and the whole check of a record: accepted with its numbers, or refused.
+// The whole check of a record: accepted as one value, or refused with its status. Every header is read once, the type is asked for once.
 ghost use mathlib.Core.Path.{_≡_};
-ghost use Rattle.judge.specs.Record.{actionOf, headerIn, imageWith, recordWith};
-ghost use Rattle.judge.specs.Judged.{pictureStatus, badGeometry, callStatus, statusWith, statusOf, settled, checkOf, statusIn};
+ghost use Rattle.judge.specs.Record.{headerIn, pictureWith, recordWith};
+ghost use Rattle.judge.specs.Check.{pictureStatus, badGeometry, callStatus, laterStatus, statusOf, settled, checkOf, statusIn};
 use dib::Header;
-use emr::Numbers;
-use emr::Picture;
+use emr::Fields;
+use emr::PictureFields;
+use emr::Row;
 use region::Rectangle;
 
 mod geometry;
 mod operation;
 
-// What is done to a pixel, decoded from the operation field.
+// What is done to a pixel, decoded from the operation field: a blend by its constant alpha, or raster operations.
 pub enum Action {
     Blend0(u8),
     Blend1(u8),
@@ -18,8 +19,8 @@ pub enum Action {
     Raster(u8),
 }
 
-// A picture of an accepted record: its corner in two's complement, its header, and where its parts stand.
-pub struct Image {
+// A picture of a record: its corner in two's complement, its header, and where its parts stand.
+pub struct Picture {
     pub present: bool,
     pub x: u32,
     pub y: u32,
@@ -30,7 +31,7 @@ pub struct Image {
     pub bits_len: u32,
 }
 
-// An accepted record. Signed numbers are in two's complement.
+// A record as one value. Signed numbers are in two's complement.
 pub struct Record {
     pub kind: u32,
     pub bounds: Rectangle,
@@ -41,80 +42,26 @@ pub struct Record {
     pub cx_src: u32,
     pub cy_src: u32,
     pub action: Action,
-    pub source: Image,
-    pub mask: Image,
+    pub source: Picture,
+    pub mask: Picture,
 }
 
-// The inner check's answer: the accepted record, or the status.
+// The check's answer: the accepted record, or the status.
 pub enum Checked {
     Accepted(Record),
     Refused(u32),
 }
 
-// The header of a picture; of an absent one all is 0.
-fn header(s: &[u8], p: Picture) -> Header
-    ensures { λ r. ⌜ r ≡ headerIn (now (s .entry)) p ⌝ }
+// A picture with its header; of an absent one all is 0.
+fn with_header(s: &[u8], p: PictureFields) -> Picture
+    ensures { λ r. ⌜ r ≡ pictureWith p (headerIn (now (s .entry)) p) ⌝ }
 {
-    dib::read(words::within(s, p.bmi as usize, p.bmi_len as usize))
-}
-
-// 8, 9, 10 of a picture, or 0.
-fn picture_status(p: Picture, h: Header) -> u32
-    ensures { λ r. ⌜ r ≡ pictureStatus p h ⌝ }
-{
-    words::either(emr::fields::is_absent(p), 0, dib::status(p.bmi_len as usize, h, p.bits_len))
-}
-
-// 12.
-fn bad_geometry(n: Numbers, h: Header) -> bool
-    ensures { λ r. ⌜ r ≡ badGeometry n h ⌝ }
-{
-    let source = n.source;
-    let mask = n.mask;
-    let rows = words::magnitude(h.height);
-    geometry::bad_target(n.x, n.y, n.cx, n.cy)
-        | geometry::bad_signs(n.kind, n.cx, n.cy, n.cx_src, n.cy_src)
-        | !emr::fields::is_absent(source) & geometry::bad_source(source.x, source.y, n.cx_src, n.cy_src, h.width, rows)
-        | !emr::fields::is_absent(mask) & geometry::bad_corner(mask.x, mask.y)
-}
-
-// 11, 12, 13, or 0.
-fn call_status(n: Numbers, source: Header, mask: Header) -> u32
-    ensures { λ r. ⌜ r ≡ callStatus n source mask ⌝ }
-{
-    let p = n.source;
-    let m = n.mask;
-    let call = operation::bad_operation(n.kind, n.operation, emr::fields::is_absent(p), source);
-    let place = bad_geometry(n, source);
-    let stencil = operation::bad_mask(n.kind, emr::fields::is_absent(m), mask);
-    words::given(11, call, words::given(12, place, words::given(13, stencil, 0)))
-}
-
-fn decoded(kind: u32, field: u32) -> Action
-    ensures { λ r. ⌜ r ≡ actionOf kind field ⌝ }
-{
-    let low = (field / 65536 % 256) as u8;
-    let high = (field / 16777216) as u8;
-    if kind == 0x72 {
-        if high == 1 {
-            return Action::Blend1(low);
-        }
-        return Action::Blend0(low);
-    }
-    if kind == 0x4E {
-        return Action::Masked(high, low);
-    }
-    Action::Raster(low)
-}
-
-fn held(p: Picture, h: Header) -> Image
-    ensures { λ r. ⌜ r ≡ imageWith p h ⌝ }
-{
-    Image {
-        present: !emr::fields::is_absent(p),
+    let header = dib::read(words::within(s, p.bmi as usize, p.bmi_len as usize));
+    Picture {
+        present: p.present,
         x: p.x,
         y: p.y,
-        header: h,
+        header,
         bmi: p.bmi,
         bmi_len: p.bmi_len,
         bits: p.bits,
@@ -122,39 +69,71 @@ fn held(p: Picture, h: Header) -> Image
     }
 }
 
-fn whole(n: Numbers, source: Header, mask: Header) -> Record
-    ensures { λ r. ⌜ r ≡ recordWith n source mask ⌝ }
+// The record of these fields; its headers are read, and its operation is decoded.
+fn record_of(s: &[u8], kind: u32, row: Row, f: Fields) -> Record
+    ensures { λ r. ⌜ r ≡ recordWith (now (s .entry)) kind row f ⌝ }
 {
-    let bounds = Rectangle {
-        left: n.left,
-        top: n.top,
-        right: n.right,
-        bottom: n.bottom,
-    };
-    let action = decoded(n.kind, n.operation);
-    let source = held(n.source, source);
-    let mask = held(n.mask, mask);
+    let form = row.form;
+    let action = operation::decoded(form, f.operation);
+    let bounds = f.bounds;
+    let source = with_header(s, f.source);
+    let mask = with_header(s, f.mask);
     Record {
-        kind: n.kind,
+        kind,
         bounds,
-        x: n.x,
-        y: n.y,
-        cx: n.cx,
-        cy: n.cy,
-        cx_src: n.cx_src,
-        cy_src: n.cy_src,
+        x: f.x,
+        y: f.y,
+        cx: f.cx,
+        cy: f.cy,
+        cx_src: f.cx_src,
+        cy_src: f.cy_src,
         action,
         source,
         mask,
     }
 }
 
-// 8 to 13, or 0.
-fn later_status(n: Numbers, source: Header, mask: Header) -> u32
-    ensures { λ r. ⌜ r ≡ statusWith n source mask ⌝ }
+// 8, 9, 10 of a picture, or 0.
+fn picture_status(p: Picture) -> u32
+    ensures { λ r. ⌜ r ≡ pictureStatus p ⌝ }
 {
-    let dibs = words::lowest(picture_status(n.source, source), picture_status(n.mask, mask));
-    words::or_else(dibs, call_status(n, source, mask))
+    words::either(p.present, dib::status(p.bmi_len as usize, p.header, p.bits_len), 0)
+}
+
+// 12.
+fn bad_geometry(signed: bool, r: Record) -> bool
+    ensures { λ q. ⌜ q ≡ badGeometry signed r ⌝ }
+{
+    let p = r.source;
+    let h = p.header;
+    let m = r.mask;
+    let rows = words::magnitude(h.height);
+    geometry::bad_target(r.x, r.y, r.cx, r.cy)
+        | geometry::bad_signs(signed, p.present, r.cx, r.cy, r.cx_src, r.cy_src)
+        | p.present & geometry::bad_source(p.x, p.y, r.cx_src, r.cy_src, h.width, rows)
+        | m.present & geometry::bad_corner(m.x, m.y)
+}
+
+// 11, 12, 13, or 0.
+fn call_status(row: Row, operation: u32, r: Record) -> u32
+    ensures { λ q. ⌜ q ≡ callStatus row operation r ⌝ }
+{
+    let form = row.form;
+    let action = r.action;
+    let p = r.source;
+    let m = r.mask;
+    let call = operation::bad_operation(form, operation, action, p.present, p.header);
+    let place = bad_geometry(row.signed, r);
+    let stencil = operation::bad_mask(row.at.mask != 0, m.present, m.header);
+    words::given(11, call, words::given(12, place, words::given(13, stencil, 0)))
+}
+
+// 8 to 13, or 0.
+fn later_status(row: Row, operation: u32, r: Record) -> u32
+    ensures { λ q. ⌜ q ≡ laterStatus row operation r ⌝ }
+{
+    let dibs = words::lowest(picture_status(r.source), picture_status(r.mask));
+    words::or_else(dibs, call_status(row, operation, r))
 }
 
 // A record is accepted as one value, or refused with its status.
@@ -168,15 +147,16 @@ fn settle(status: u32, r: Record) -> Checked
     }
 }
 
-// The first of 3 to 13 that applies, or the record as one value. Each header is read once.
+// The first of 3 to 13 that applies, or the record as one value.
 pub fn check(s: &[u8]) -> Checked
     ensures { λ r. ⌜ r ≡ checkOf (now (s .entry)) ⌝ }
 {
-    let n = emr::fields::read(s);
-    let source = header(s, n.source);
-    let mask = header(s, n.mask);
-    let framed = words::or_else(emr::frame::status(s), emr::frame::parts_status(s, n));
-    settle(words::or_else(framed, later_status(n, source, mask)), whole(n, source, mask))
+    let kind = words::read_u32(s, 0);
+    let row = emr::types::of(kind);
+    let f = emr::fixed::read(s, row.at);
+    let r = record_of(s, kind, row, f);
+    let framed = words::or_else(emr::status::frame(s, row.at), emr::status::parts(s, row.at, f));
+    settle(words::or_else(framed, later_status(row, f.operation, r)), r)
 }
 
 // Document 01's number for a record: the first of 3 to 13 that applies, or 0.

@@ -1,12 +1,42 @@
-// Statuses 11 and 13.
+// The operation field decoded, and statuses 11 and 13.
 ghost use mathlib.Core.Path.{_≡_};
-ghost use Rattle.judge.specs.Operation.{hasAlpha, badBlend, sourceNeeded, badOperation, badMask};
+ghost use Rattle.judge.specs.Operation.{isBlend, actionOf, hasAlpha, badBlend, readsSource, badOperation, badMask};
+use crate::Action;
 use dib::Header;
+use emr::Form;
+
+// ROP4: the foreground byte, then the background byte.
+pub fn decoded(form: Form, field: u32) -> Action
+    ensures { λ r. ⌜ r ≡ actionOf form field ⌝ }
+{
+    let low = (field / 65536 % 256) as u8;
+    let high = (field / 16777216) as u8;
+    match form {
+        Form::Blend => {
+            if high == 1 {
+                return Action::Blend1(low);
+            }
+            Action::Blend0(low)
+        }
+        Form::Rop4 => Action::Masked(high, low),
+        Form::Rop => Action::Raster(low),
+    }
+}
+
+fn is_blend(form: Form) -> bool
+    ensures { λ r. ⌜ r ≡ isBlend form ⌝ }
+{
+    match form {
+        Form::Blend => true,
+        Form::Rop4 => false,
+        Form::Rop => false,
+    }
+}
 
 fn has_alpha(h: Header) -> bool
     ensures { λ r. ⌜ r ≡ hasAlpha h ⌝ }
 {
-    (h.bits == 32) & ((h.compression == 0) | (h.alpha != 0))
+    (h.bits == 32) & ((h.compression == 0) | (h.masks.alpha != 0))
 }
 
 fn bad_blend(field: u32, h: Header) -> bool
@@ -16,22 +46,25 @@ fn bad_blend(field: u32, h: Header) -> bool
     (field % 256 != 0) | (1 < format) | (format == 1) & !has_alpha(h)
 }
 
-fn source_needed(kind: u32, field: u32) -> bool
-    ensures { λ r. ⌜ r ≡ sourceNeeded kind field ⌝ }
+fn reads_source(a: Action) -> bool
+    ensures { λ r. ⌜ r ≡ readsSource a ⌝ }
 {
-    let low = pixel::raster::needs_source((field / 65536 % 256) as u8);
-    let high = pixel::raster::needs_source((field / 16777216) as u8);
-    (kind == 0x72) | words::choose(kind == 0x4E, high | low, low)
+    match a {
+        Action::Blend0(_) => true,
+        Action::Blend1(_) => true,
+        Action::Masked(fore, back) => pixel::raster::needs_source(fore) | pixel::raster::needs_source(back),
+        Action::Raster(op) => pixel::raster::needs_source(op),
+    }
 }
 
-pub fn bad_operation(kind: u32, field: u32, absent: bool, h: Header) -> bool
-    ensures { λ r. ⌜ r ≡ badOperation kind field absent h ⌝ }
+pub fn bad_operation(form: Form, field: u32, a: Action, present: bool, h: Header) -> bool
+    ensures { λ r. ⌜ r ≡ badOperation form field a present h ⌝ }
 {
-    (kind == 0x72) & bad_blend(field, h) | absent & source_needed(kind, field)
+    is_blend(form) & bad_blend(field, h) | !present & reads_source(a)
 }
 
-pub fn bad_mask(kind: u32, absent: bool, h: Header) -> bool
-    ensures { λ r. ⌜ r ≡ badMask kind absent h ⌝ }
+pub fn bad_mask(has_mask: bool, present: bool, h: Header) -> bool
+    ensures { λ r. ⌜ r ≡ badMask «has_mask» present h ⌝ }
 {
-    (kind == 0x4E) & (absent | (h.bits != 1))
+    has_mask & (!present | (h.bits != 1))
 }

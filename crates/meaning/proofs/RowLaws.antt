@@ -14,8 +14,8 @@ use Rattle.pixel.specs.Place.{rowLength, remainder, maskPixel}
 use Rattle.pixel.proofs.PlaceLaws.{remainder-lt}
 use Rattle.dib.specs.declared.Header.{Header}
 use Rattle.dib.specs.Header.{topDown, rows}
-use Rattle.dib.specs.Judged.{badFields}
-use Rattle.dib.proofs.JudgeLaws.{sound, passed-fields, depth-bounds}
+use Rattle.dib.specs.HeaderStatus.{badFields}
+use Rattle.dib.proofs.HeaderLaws.{sound, passed-fields, depth-bounds}
 use Rattle.sample.specs.declared.Masks.{Masks}
 use Rattle.sample.specs.Stored.{stored1, stored, storedRow}
 use Rattle.sample.specs.Colour.{shown}

@@ -11,7 +11,7 @@ use borrow.Author.Tests.{ltb-false}
 use Rattle.words.proofs.ChoiceLaws.{or-none}
 use Rattle.dib.specs.declared.Header.{Header}
 use Rattle.dib.specs.Header.{tableStart, entries}
-use Rattle.dib.specs.Judged.{badFields, badHeader}
+use Rattle.dib.specs.HeaderStatus.{badFields, badHeader}
 use Rattle.sample.specs.Palette.{paletteOf}
 use Rattle.picture.specs.Palette.{shownEntries, headerPalette}
 

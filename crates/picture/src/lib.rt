@@ -4,7 +4,7 @@ ghost use mathlib.Core.Bool.{true, false};
 ghost use Prim.Native.Nat.{_≤_, _<_};
 ghost use lib.ListN.{length};
 ghost use Rattle.dib.specs.Header.{rows, entries};
-ghost use Rattle.dib.specs.Judged.{badHeader};
+ghost use Rattle.dib.specs.HeaderStatus.{badHeader};
 ghost use Rattle.sample.specs.At.{Colours};
 ghost use Rattle.judge.specs.Record.{headerPart, bitsPart};
 ghost use Rattle.judge.specs.Good.{Fit};

@@ -5,8 +5,8 @@ use mathlib.Core.List.{List}
 use Prim.Native.Nat.{ℕ, _+_, _≤_, zero-le}
 use native.Mathlib.Omega.{arith}
 use lib.ListN.{length}
-use Rattle.dib.specs.Judged.{badFields}
-use Rattle.dib.proofs.JudgeLaws.{passed-fields}
+use Rattle.dib.specs.HeaderStatus.{badFields}
+use Rattle.dib.proofs.HeaderLaws.{passed-fields}
 use Rattle.judge.specs.declared.Image.{Image}
 use Rattle.judge.specs.declared.Record.{Record}
 use Rattle.judge.specs.declared.Checked.{Checked}

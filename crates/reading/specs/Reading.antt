@@ -4,7 +4,7 @@ use mathlib.Core.Bool.{Bool, true, false, cond}
 use mathlib.Core.List.{List}
 use lib.ListN.{take, drop}
 use Rattle.dib.specs.Header.{topDown, rows}
-use Rattle.dib.specs.Judged.{bitsNeeded}
+use Rattle.dib.specs.HeaderStatus.{bitsNeeded}
 use Rattle.judge.specs.declared.Image.{Image}
 use Rattle.judge.specs.declared.Record.{Record}
 use Rattle.judge.specs.declared.Checked.{Checked}

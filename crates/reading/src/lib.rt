@@ -3,7 +3,7 @@ ghost use mathlib.Core.Path.{_≡_};
 ghost use mathlib.Core.Bool.{true, false};
 ghost use Prim.Native.Nat.{_+_, _≤_};
 ghost use lib.ListN.{length, take, drop};
-ghost use Rattle.dib.specs.Judged.{badFields};
+ghost use Rattle.dib.specs.HeaderStatus.{badFields};
 ghost use Rattle.reading.specs.Reading.{wanted as wantedOf, emptyReading, fullReading, pictureReading, readingOf, headerBytes, viewBytes, readPalette};
 use judge::Checked;
 use judge::Image;

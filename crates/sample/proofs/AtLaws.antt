@@ -15,7 +15,7 @@ use Rattle.pixel.specs.Place.{rowLength}
 use Rattle.pixel.proofs.MaskLaws.{ones-of}
 use Rattle.dib.specs.declared.Header.{Header}
 use Rattle.dib.specs.Header.{hasMasks, topDown, rows}
-use Rattle.dib.specs.Judged.{badChannels, badOverlaps, badMasks, bitsNeeded}
+use Rattle.dib.specs.HeaderStatus.{badChannels, badOverlaps, badMasks, bitsNeeded}
 use Rattle.sample.specs.declared.Masks.{Masks}
 use Rattle.sample.specs.Stored.{stored, storedRow, rowBytes}
 use Rattle.sample.specs.Colour.{masksOf, Sampled, shown}

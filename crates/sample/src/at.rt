@@ -5,7 +5,7 @@ ghost use Prim.Native.Nat.{_≤_, _<_};
 ghost use lib.ListN.{length};
 ghost use Rattle.pixel.specs.Widen.{Widens};
 ghost use Rattle.dib.specs.Header.{rows};
-ghost use Rattle.dib.specs.Judged.{badFields, badMasks, bitsNeeded};
+ghost use Rattle.dib.specs.HeaderStatus.{badFields, badMasks, bitsNeeded};
 ghost use Rattle.sample.specs.At.{pixelAt, Colours};
 use dib::Header;
 

@@ -1,5 +1,5 @@
 -- The code's expression is the definition's, test by test.
-use Rattle.dib.specs.Judged.{badFields}
+use Rattle.dib.specs.HeaderStatus.{badFields}
 use borrow.Author.Needs.{needs}
 use Rattle.dib.proofs.bad_fields.Statement.{statement}
 use Rattle.dib.proofs.bad_fields.Tie as tie

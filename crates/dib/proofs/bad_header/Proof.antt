@@ -1,5 +1,5 @@
 -- The code's expression is the definition's.
-use Rattle.dib.specs.Judged.{badHeader}
+use Rattle.dib.specs.HeaderStatus.{badHeader}
 use borrow.Author.Needs.{needs}
 use Rattle.dib.proofs.bad_header.Statement.{statement}
 use Rattle.dib.proofs.bad_header.Tie as tie

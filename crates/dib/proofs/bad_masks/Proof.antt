@@ -1,5 +1,5 @@
-use Rattle.dib.specs.Judged.{badMasks}
-use Rattle.dib.proofs.JudgeLaws.{sound, depth-bounds}
+use Rattle.dib.specs.HeaderStatus.{badMasks}
+use Rattle.dib.proofs.HeaderLaws.{sound, depth-bounds}
 use borrow.Author.Needs.{needs}
 use Rattle.dib.proofs.bad_masks.Statement.{statement}
 use Rattle.dib.proofs.bad_masks.Tie as tie

@@ -1,8 +1,8 @@
 use native.Mathlib.Omega.{arith}
 use mathlib.Core.Path.{ap₂}
 use Prim.Native.Nat.{_*_}
-use Rattle.dib.specs.Judged.{bitsNeeded}
-use Rattle.dib.proofs.JudgeLaws.{bits-small}
+use Rattle.dib.specs.HeaderStatus.{bitsNeeded}
+use Rattle.dib.proofs.HeaderLaws.{bits-small}
 use borrow.Author.Needs.{needs}
 use Rattle.dib.proofs.bits_needed.Statement.{statement}
 use Rattle.dib.proofs.bits_needed.Tie as tie

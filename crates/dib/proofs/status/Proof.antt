@@ -1,8 +1,8 @@
 -- The code's expression is the definition's, once status 8 has left.
 use mathlib.Core.Path.{_≡_, _∙_, sym}
 use mathlib.Core.Bool.{true, false}
-use Rattle.dib.specs.Judged.{badHeader, dibStatus}
-use Rattle.dib.proofs.JudgeLaws.{passed-fields}
+use Rattle.dib.specs.HeaderStatus.{badHeader, dibStatus}
+use Rattle.dib.proofs.HeaderLaws.{passed-fields}
 use borrow.Author.Needs.{needs}
 use Rattle.dib.proofs.status.Statement.{statement}
 use Rattle.dib.proofs.status.Tie as tie

@@ -1,7 +1,7 @@
 -- The code's choices are the definition's, and 2 ^ bits is at most 256 at 8 bits.
 use native.Mathlib.Omega.{arith}
 use Rattle.dib.specs.Header.{entries}
-use Rattle.dib.proofs.JudgeLaws.{full-table}
+use Rattle.dib.proofs.HeaderLaws.{full-table}
 use borrow.Author.Needs.{needs}
 use Rattle.dib.proofs.table_entries.Statement.{statement}
 use Rattle.dib.proofs.table_entries.Tie as tie

@@ -1,7 +1,7 @@
 -- The table that status 8 let pass lies in the header part.
 use mathlib.Core.Path.{_∙_}
 use native.Mathlib.Omega.{arith}
-use Rattle.dib.proofs.JudgeLaws.{passed-fields, entries-bound}
+use Rattle.dib.proofs.HeaderLaws.{passed-fields, entries-bound}
 use Rattle.picture.proofs.PaletteLaws.{start-in, table-in, table-palette}
 use borrow.Author.Needs.{needs}
 use Rattle.picture.proofs.header_palette.Statement.{statement}

@@ -4,7 +4,7 @@ use Prim.Native.Nat.{ℕ}
 use mathlib.Core.List.{List}
 use lib.ListN.{length}
 use Rattle.words.proofs.ChoiceLaws.{cond-true, cond-false}
-use Rattle.dib.specs.Judged.{badHeader}
+use Rattle.dib.specs.HeaderStatus.{badHeader}
 use Rattle.picture.specs.Palette.{picturePalette, headerPalette}
 use Rattle.picture.proofs.RowLaws.{length-header}
 use borrow.Author.Needs.{needs}

@@ -1,8 +1,8 @@
 use mathlib.Core.Path.{ap, _∙_}
 use Prim.Native.Nat.{ℕ, _^_}
 use lib.Dec.{ltb}
-use Rattle.dib.specs.Judged.{badColours}
-use Rattle.dib.proofs.JudgeLaws.{or-min}
+use Rattle.dib.specs.HeaderStatus.{badColours}
+use Rattle.dib.proofs.HeaderLaws.{or-min}
 use borrow.Author.Needs.{needs}
 use Rattle.dib.proofs.limits.bad_colours.Statement.{statement}
 use Rattle.dib.proofs.limits.bad_colours.Tie as tie

@@ -7,4 +7,4 @@ returns : tie.Need-returns
 returns c = cc
 
 pub bad-operation-spec : {M : Type 1} → statement M
-bad-operation-spec = tie.close (tie.spec (λ c κs. search needs) (λ c κs. search needs) returns)
+bad-operation-spec = tie.close (tie.spec (λ c κs. search needs) (λ c κs. search needs) (λ c κs. search needs) returns)

@@ -1,7 +1,7 @@
 -- A row that is read lies in the mask, and its bits are the definition's.
 use denote.Ref.{now}
 use native.Mathlib.Omega.{arith}
-use Rattle.dib.proofs.JudgeLaws.{sound}
+use Rattle.dib.proofs.HeaderLaws.{sound}
 use Rattle.meaning.proofs.RowLaws.{fields-ok, mask-none, mask-filled, line-reaches, bits-reach, mask-row-in}
 use borrow.Author.Needs.{needs}
 use Rattle.meaning.proofs.rows.of_mask.Statement.{statement}

@@ -2,7 +2,7 @@
 use denote.Ref.{now}
 use native.Mathlib.Omega.{arith}
 use Rattle.dib.specs.Header.{rows}
-use Rattle.dib.proofs.JudgeLaws.{sound}
+use Rattle.dib.proofs.HeaderLaws.{sound}
 use Rattle.sample.proofs.AtLaws.{sampled}
 use Rattle.meaning.specs.Sampling.{isFormat1}
 use Rattle.meaning.proofs.FitLaws.{source-fits, column-inside}

@@ -1,4 +1,4 @@
-use Rattle.dib.proofs.JudgeLaws.{sound}
+use Rattle.dib.proofs.HeaderLaws.{sound}
 use Rattle.sample.proofs.AtLaws.{row-in, column-in, pixel-is, sampled}
 use borrow.Author.Needs.{needs}
 use Rattle.sample.proofs.at.pixel.Statement.{statement}

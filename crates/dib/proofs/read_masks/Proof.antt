@@ -1,0 +1,13 @@
+-- Each field is read where the definition reads it.
+use borrow.Author.Needs.{needs}
+use Rattle.dib.proofs.read_masks.Statement.{statement}
+use Rattle.dib.proofs.read_masks.Tie as tie
+
+returns : tie.Need-returns
+returns c = cc
+
+pub read-masks-spec : {M : Type 1} → statement M
+read-masks-spec =
+    tie.close (tie.spec
+    (λ c κs. search needs) (λ c κs. search needs) (λ c κs. search needs) (λ c κs. search needs) (λ c κs. search needs)
+    (λ c κs. search needs) (λ c κs. search needs) (λ c κs. search needs) returns)

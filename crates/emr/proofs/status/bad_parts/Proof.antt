@@ -1,0 +1,10 @@
+-- The code's expression is the definition's.
+use borrow.Author.Needs.{needs}
+use Rattle.emr.proofs.status.bad_parts.Statement.{statement}
+use Rattle.emr.proofs.status.bad_parts.Tie as tie
+
+returns : tie.Need-returns
+returns c = cc
+
+pub bad-parts-spec : {M : Type 1} → statement M
+bad-parts-spec = tie.close (tie.spec (λ c κs. search needs) (λ c κs. search needs) returns)

@@ -1,0 +1,49 @@
+-- Document 01, refusals 3 to 7: a record's length, type, Size, parts, transform and usages. Definitions only.
+use Prim.Native.Nat.{ℕ, _+_, _%_}
+use mathlib.Core.Bool.{Bool, not, _&&_, _||_}
+use mathlib.Core.List.{List}
+use lib.ListN.{length}
+use lib.Dec.{eqb, ltb}
+use Rattle.words.specs.Bytes.{le32}
+use Rattle.words.specs.Choice.{given}
+use Rattle.emr.specs.declared.Offsets.{Offsets}
+use Rattle.emr.specs.declared.PictureFields.{PictureFields}
+use Rattle.emr.specs.declared.Fields.{Fields}
+use Rattle.emr.specs.Transform.{transformOf, isIdentity}
+
+-- 3: "record under 8 bytes or over 16,777,216"
+abbrev pub badLength : (len : ℕ) → Bool
+badLength len = ltb len 8 || ltb 16777216 len
+
+-- 4: "type not listed"
+abbrev pub badType : (fixed : ℕ) → Bool
+badType fixed = eqb fixed 0
+
+-- 5: "Size not the lent length, not a multiple of 4, or below the fixed part"
+abbrev pub badSize : (size len fixed : ℕ) → Bool
+badSize size len fixed = not (eqb size len) || not (eqb (size % 4) 0) || ltb size fixed
+
+-- 3 to 5
+unfoldable pub frameStatus : List ℕ → Offsets → ℕ
+frameStatus s at =
+    given 3 (badLength (length s)) (given 4 (badType (at .fixed)) (given 5 (badSize (le32 s 4) (length s) (at .fixed)) 0))
+
+-- 6: "a present picture's part begins before the fixed part's end or ends past Size"
+abbrev pub outside : (len fixed at size : ℕ) → Bool
+outside len fixed at size = ltb at fixed || ltb len (at + size)
+
+abbrev pub badParts : (len fixed : ℕ) → PictureFields → Bool
+badParts len fixed p = p .present && (outside len fixed (p .bmi) (p .«bmi_len») || outside len fixed (p .bits) (p .«bits_len»))
+
+-- 7: "XformSrc not the identity, or a present picture's usage not 0"
+abbrev pub badTransform : List ℕ → (at : ℕ) → Bool
+badTransform s at = not (eqb at 0) && not (isIdentity (transformOf s at))
+
+abbrev pub badUsage : PictureFields → Bool
+badUsage p = p .present && not (eqb (p .usage) 0)
+
+-- 6 and 7, each over both pictures
+unfoldable pub partsStatus : List ℕ → Offsets → Fields → ℕ
+partsStatus s at f =
+    given 6 (badParts (length s) (at .fixed) (f .source) || badParts (length s) (at .fixed) (f .mask))
+    (given 7 (badTransform s (at .transform) || badUsage (f .source) || badUsage (f .mask)) 0)

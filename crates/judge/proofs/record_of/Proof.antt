@@ -1,0 +1,10 @@
+-- Each field is the definition's.
+use borrow.Author.Needs.{needs}
+use Rattle.judge.proofs.record_of.Statement.{statement}
+use Rattle.judge.proofs.record_of.Tie as tie
+
+returns : tie.Need-returns
+returns c = cc
+
+pub record-of-spec : {M : Type 1} → statement M
+record-of-spec = tie.close (tie.spec (λ c κs. search needs) (λ c κs. search needs) (λ c κs. search needs) returns)
