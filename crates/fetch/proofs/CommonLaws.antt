@@ -5,7 +5,7 @@ use native.Mathlib.Nat.{mod-eq-of-lt}
 use native.Mathlib.Omega.{arith}
 use lib.Count.{trailingZeros}
 use lib.Pow.{mod-pow-add}
-use Rattle.pixel.specs.Masks.{maskPlace, maskOf, channelAt}
+use Rattle.pixel.specs.Masks.{maskShift, maskOf, channelAt}
 use Rattle.pixel.specs.Round.{roundDiv}
 use Rattle.pixel.specs.Widen.{widened}
 use Rattle.pixel.proofs.MaskLaws.{ones-of}
@@ -18,11 +18,11 @@ unfolding widened roundDiv
 widened-8 v = omega arith
 
 -- so a mask of eight ones puts its byte before those below
-byte-of : (p n : ℕ) → maskPlace (maskOf 8 p) ≡ p → channel8 (maskOf 8 p) n ≡ n / 2 ^ p % 2 ^ 8
+byte-of : (p n : ℕ) → maskShift (maskOf 8 p) ≡ p → channel8 (maskOf 8 p) n ≡ n / 2 ^ p % 2 ^ 8
 unfolding channel8 channelAt
 byte-of p n e = ap₂ (λ (w q : ℕ). widened w (n / 2 ^ q % 2 ^ w)) (ones-of 8 p) e ∙ widened-8 _
 
-with-byte : (p n : ℕ) → maskPlace (maskOf 8 p) ≡ p → channel8 (maskOf 8 p) n * 2 ^ p + n % 2 ^ p ≡ n % 2 ^ (8 + p)
+with-byte : (p n : ℕ) → maskShift (maskOf 8 p) ≡ p → channel8 (maskOf 8 p) n * 2 ^ p + n % 2 ^ p ≡ n % 2 ^ (8 + p)
 with-byte p n e = ap (λ (x : ℕ). x * 2 ^ p + n % 2 ^ p) (byte-of p n e) ∙ sym (mod-pow-add n 8 p)
 
 three : (a b c x y z : ℕ) → c ≡ z → b + z ≡ y → a + y ≡ x → a + b + c ≡ x

@@ -1,4 +1,4 @@
--- Masks and channels: a mask that is not 0 has a one and a place in the word, and a channel fits its width. Assumes nothing.
+-- Masks and channels: a mask that is not 0 has a one and a shift below the word's length, and a channel fits its width. Assumes nothing.
 use mathlib.Core.Path.{_≡_, refl}
 use mathlib.Core.Bool.{Bool, true, false, _&&_}
 use mathlib.Core.Logic.{_⊎_, inl, inr}
@@ -7,7 +7,7 @@ use native.Mathlib.Nat.{mod-lt, not-suc-le-zero, pow-suc, zero-lt-suc, eq-zero-o
 use native.Mathlib.Omega.{arith}
 use lib.Pow.{pow-pos}
 use lib.Count.{ones, onesIn, trailingZeros, under, ones-step}
-use Rattle.pixel.specs.Masks.{maskWidth, maskPlace, channelAt}
+use Rattle.pixel.specs.Masks.{maskWidth, maskShift, channelAt}
 
 -- a number below 2 ^ k that is not 0 has a one
 some-one : (k n : ℕ) → 0 < n → n < 2 ^ k → 1 ≤ ones n
@@ -31,10 +31,10 @@ trailing-lt (suc k) n p h = go (λ q. trailing-lt k (n / 2) q (omega (arith, pow
     go rest zero e = suc-le-suc (rest (omega arith))
     go rest (suc d) e = zero-lt-suc k
 
-pub place-lt : (m : ℕ) → 1 ≤ maskWidth m → m < 2 ^ 32 → maskPlace m < 32
+pub shift-lt : (m : ℕ) → 1 ≤ maskWidth m → m < 2 ^ 32 → maskShift m < 32
 unfolding ones onesIn
-place-lt zero h l = absurd (not-suc-le-zero h)
-place-lt (suc m) h l = trailing-lt 32 (suc m) (zero-lt-suc m) l
+shift-lt zero h l = absurd (not-suc-le-zero h)
+shift-lt (suc m) h l = trailing-lt 32 (suc m) (zero-lt-suc m) l
 
 pub channel-lt : (w p n : ℕ) → channelAt w p n < 2 ^ w
 unfolding channelAt

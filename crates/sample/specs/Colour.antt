@@ -5,14 +5,14 @@ use mathlib.Core.List.{List}
 use lib.ListN.{getD}
 use lib.Dec.{eqb, leb}
 use Rattle.pixel.specs.Blend.{pixelOf}
-use Rattle.pixel.specs.Masks.{maskWidth, maskPlace, channelAt}
+use Rattle.pixel.specs.Masks.{maskWidth, maskShift, channelAt}
 use Rattle.pixel.specs.Widen.{widened}
 use Rattle.dib.specs.Header.{hasMasks}
 use Rattle.sample.specs.declared.Masks.{Masks}
 
 -- the channel that a mask picks from n, widened to 8 bits
 unfoldable pub channel8 : (mask n : ℕ) → ℕ
-channel8 mask n = widened (maskWidth mask) (channelAt (maskWidth mask) (maskPlace mask) n)
+channel8 mask n = widened (maskWidth mask) (channelAt (maskWidth mask) (maskShift mask) n)
 
 -- "BI_RGB 16: blue, green, red of five bits, from the lowest up. BI_RGB 32: blue, green, red, and a high byte that is alpha only
 -- under alpha format 1." "24 bits: blue, green, red." Under BI_BITFIELDS the header's masks.

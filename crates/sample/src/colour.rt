@@ -60,7 +60,7 @@ pub fn channel8(t: &[u8; 510], mask: u32, n: u32) -> u8
     ensures { λ r. ⌜ r ≡ channel8Of mask n ⌝ }
 {
     let w = pixel::masks::width(mask);
-    let v = pixel::masks::channel(w, pixel::masks::place(mask), n);
+    let v = pixel::masks::channel(w, pixel::masks::shift(mask), n);
     pixel::widen::widen(t, w as usize, v as usize)
 }
 

@@ -149,7 +149,7 @@ pub fn mask_places() {
 // The masks of a 5-6-5 pixel, and one with a gap.
 pub fn channel_masks() {
     line::number(b"mask 0xF800: width", masks::width(0xF800) as u64, 5);
-    line::number(b"mask 0xF800: place", masks::place(0xF800) as u64, 11);
+    line::number(b"mask 0xF800: place", masks::shift(0xF800) as u64, 11);
     line::truth(
         b"mask 0xF800 is contiguous",
         masks::is_contiguous(0xF800),

@@ -1,7 +1,7 @@
 use native.Mathlib.Omega.{arith}
 use Prim.Native.Nat.{_^_, _<_}
 use Rattle.sample.specs.Colour.{channel8}
-use Rattle.sample.proofs.ColourLaws.{place-lt, channel-lt}
+use Rattle.sample.proofs.ColourLaws.{shift-lt, channel-lt}
 use borrow.Author.Needs.{needs}
 use Rattle.sample.proofs.colour.channel8.Statement.{statement}
 use Rattle.sample.proofs.colour.channel8.Tie as tie
@@ -9,13 +9,13 @@ use Rattle.sample.proofs.colour.channel8.Tie as tie
 width-requires : tie.Need-width-requires
 width-requires c κs = search needs
 
-place-requires : tie.Need-place-requires
-place-requires c κs = search needs
+shift-requires : tie.Need-shift-requires
+shift-requires c κs = search needs
 
 channel-requires : tie.Need-channel-requires
 channel-requires c κs =
     let a = c .before .before in
-    omega (arith, place-lt (a .args .mask) (a .pre .0) (a .fits .mask .fits))
+    omega (arith, shift-lt (a .args .mask) (a .pre .0) (a .fits .mask .fits))
 
 cast-widen : tie.Need-cast-widen
 cast-widen c = search needs
@@ -27,7 +27,7 @@ widen-requires : tie.Need-widen-requires
 widen-requires c κs =
     let a = c .before .before .before in
     let w = c .before .before .width .result in
-    let v : c .channel .result < 2 ^ w = rw (c .channel .ensures) (channel-lt w (c .before .place .result) (a .args .n)) in
+    let v : c .channel .result < 2 ^ w = rw (c .channel .ensures) (channel-lt w (c .before .shift .result) (a .args .n)) in
     (omega arith, omega arith, v, a .pre .2)
 
 returns : tie.Need-returns
@@ -39,7 +39,7 @@ channel8-spec =
     tie.close
     (tie.spec
     width-requires
-    place-requires
+    shift-requires
     channel-requires
     cast-widen
     cast-widen-2
