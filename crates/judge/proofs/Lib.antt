@@ -1,3 +1,4 @@
 pub mod OperationLaws
 pub mod CheckLaws
 pub mod AcceptedLaws
+pub mod SignedGeometryLaws

@@ -1,5 +1,6 @@
 pub mod Operation
 pub mod Geometry
+pub mod SignedGeometry
 pub mod Record
 pub mod Good
 pub mod Check
