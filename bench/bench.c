@@ -123,6 +123,33 @@ static void run(const char *name, size_t len) {
     fflush(stdout);
 }
 
+/* Plays of a small record, one after the other from an empty journal: what a play costs by itself. */
+static void small(const char *name, size_t len) {
+    enum { PLAYS = 20000 };
+    double best_a = 1e9, best_b = 1e9;
+    for (int round = 0; round < ROUNDS; round++) {
+        uint64_t used_a = 0, used_b = 0;
+        uint32_t n = 0, pixels = 0;
+        double t = now();
+        for (int k = 0; k < PLAYS; k++) {
+            used_a = 0;
+            if (lacrumont_play(ours, PIXELS, SIDE, SIDE, our_journal, JOURNAL, &used_a, record, len, 0, 0, SIDE, SIDE, 0x123456, &pixels)) differs = 1;
+        }
+        t = now() - t;
+        if (t < best_a) best_a = t;
+        t = now();
+        for (int k = 0; k < PLAYS; k++) {
+            used_b = 0;
+            n = plain_play(theirs, SIDE, their_journal, &used_b, record, 0x123456);
+        }
+        t = now() - t;
+        if (t < best_b) best_b = t;
+        check(name, n == pixels && used_a == used_b && !memcmp(ours, theirs, PIXELS * 4));
+    }
+    printf("| %-44s | %6.0f | %6.0f | %5.2f |\n", name, best_a * 1e9 / PLAYS, best_b * 1e9 / PLAYS, best_a / best_b);
+    fflush(stdout);
+}
+
 int main(void) {
     before = malloc(PIXELS * 4);
     ours = malloc(PIXELS * 4);
@@ -147,5 +174,12 @@ int main(void) {
         run(name, make(record, 0x51, SIDE, SIDE, 0x00CC0020, depths[k].depth, depths[k].fields, 1000, 1000));
     }
     run("0x51, 0xCC, 1000 to 4096, 32 bits, mirrored", make(record, 0x51, -SIDE, SIDE, 0x00CC0020, 32, 0, 1000, 1000));
+    memcpy(ours, before, PIXELS * 4);
+    memcpy(theirs, before, PIXELS * 4);
+    printf("\n| small play | library ns/play | plain C ns/play | ratio |\n|---|---|---|---|\n");
+    small("16 by 16, 0x51, 0xCC, 32 bits", make(record, 0x51, 16, 16, 0x00CC0020, 32, 0, 16, 16));
+    small("16 by 16, 0x72, format 1, 32 bits", make(record, 0x72, 16, 16, 0x01800000, 32, 0, 16, 16));
+    small("16 by 16, 0x4E, 0xCC over 0x66, 8 bits", make(record, 0x4E, 16, 16, 0xCC660000, 8, 0, 16, 16));
+    small("1 by 1, 0x51, 0xF0, no source", make(record, 0x51, 1, 1, 0x00F00021, 0, 0, 0, 0));
     return differs;
 }

@@ -2,12 +2,13 @@
 use mathlib.Core.Path.{_≡_}
 use mathlib.Core.Bool.{true}
 use mathlib.Core.List.{List}
-use Prim.Native.Nat.{ℕ, _+_, _≤_, _<_}
+use Prim.Native.Nat.{ℕ, _+_, _*_, _≤_, _<_}
 use lib.ListN.{length, getD}
 use Rattle.words.specs.Bytes.{magnitude32, signed32}
 use Rattle.pixel.specs.Place.{maskPixel}
 use Rattle.judge.specs.declared.Record.{Record}
 use Rattle.region.specs.declared.Target.{Target}
+use Rattle.journal.specs.Records.{stride}
 use Rattle.meaning.specs.Sampling.{sourceColumn}
 
 -- the target lies on the surface and in the whole target, and has columns
@@ -20,10 +21,15 @@ pub record Lies (width height : ℕ) (r : Record) (t : Target) : Type 0 where
   pub line-numbers : 1 ≤ t .rows .count → t .rows .index + t .rows .count ≤ magnitude32 (r .cy)
 
 -- the columns of source and mask that the target's columns read, as far as there are such pictures
-pub record Mapped (r : Record) (t : Target) (columns spots : List ℕ) : Type 0 where
-  pub as-many : length columns ≡ t .columns .count
-  pub as-many-spots : length spots ≡ t .columns .count
+pub record Mapped (r : Record) (t : Target) (sourceColumns maskColumns : List ℕ) : Type 0 where
+  pub as-many : length sourceColumns ≡ t .columns .count
+  pub as-many-masks : length maskColumns ≡ t .columns .count
   pub source : r .source .present ≡ true → (k : ℕ) → k < t .columns .count
-      → getD columns k 0 ≡ sourceColumn (r .source .x) (r .«cx_src») (r .cx) (t .columns .index + k)
+      → getD sourceColumns k 0 ≡ sourceColumn (r .source .x) (r .«cx_src») (r .cx) (t .columns .index + k)
   pub mask : r .mask .present ≡ true → (k : ℕ) → k < t .columns .count
-      → getD spots k 0 ≡ maskPixel (signed32 (r .mask .x)) (t .columns .index + k) (r .mask .header .width)
+      → getD maskColumns k 0 ≡ maskPixel (signed32 (r .mask .x)) (t .columns .index + k) (r .mask .header .width)
+
+-- the surface has its length, and the journal room for the target's pixels from record `at` on
+pub record Room (width height : ℕ) (t : Target) (at : ℕ) (surface journal : List ℕ) : Type 0 where
+  pub pixels : length surface ≡ width * height
+  pub records : (at + t .columns .count * t .rows .count) * stride ≤ length journal

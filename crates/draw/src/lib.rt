@@ -1,35 +1,33 @@
 // Drawing an accepted record. What the record decides is decided before the first row; then each row fetches its source pixels
 // and mask bits, and one loop saves the old pixels and writes the new ones. The buffers hold one row.
 ghost use mathlib.Core.Path.{_≡_};
-ghost use mathlib.Core.Bool.{true};
-ghost use Prim.Native.Nat.{ℕ, _+_, _*_, _≤_, _<_};
-ghost use lib.ListN.{length, getD};
+ghost use mathlib.Core.Bool.{cond};
+ghost use Prim.Native.Nat.{_+_, _*_, _≤_};
+ghost use lib.ListN.{length};
 ghost use lib.Seq.{sets};
 ghost use Rattle.words.specs.Bytes.{magnitude32, signed32};
+ghost use Rattle.words.specs.Filled.{Filled};
 ghost use Rattle.pixel.specs.Place.{maskPixel};
-ghost use Rattle.pixel.specs.Widen.{Widens};
-ghost use Rattle.sample.specs.At.{Colours};
 ghost use Rattle.judge.specs.Good.{Good};
-ghost use Rattle.picture.specs.Palette.{picturePalette};
 ghost use Rattle.region.specs.Target.{placesIn, targetOf};
 ghost use Rattle.journal.specs.Drawing.{drawn};
 ghost use Rattle.journal.specs.Records.{stride, bytesOf, saved};
-ghost use Rattle.meaning.specs.Sampling.{isFormat1, sourceColumn};
-ghost use Rattle.meaning.specs.Reading.{masksIn};
+ghost use Rattle.meaning.specs.Sampling.{sourceColumn};
+ghost use Rattle.meaning.specs.Rows.{SourceRow, MaskRow};
 ghost use Rattle.meaning.specs.Meaning.{meaningIn, paintOn};
-ghost use Rattle.draw.specs.Ready.{Lies, Mapped};
+ghost use Rattle.draw.specs.Ready.{Lies, Mapped, Room};
+use dib::Masks;
 use judge::Record;
 use region::Rectangle;
 use region::Target;
-use sample::Masks;
 
 // The most columns that a row has.
 const MOST: usize = 4096;
 
-// The columns of the source that the target reads, if there is a source.
-fn source_columns(s: &[u8], r: Record, index: u32, out: &mut [u32], count: usize)
+// The columns of the source that the target's columns from `index` on read; none is written where there is no source.
+fn fill_source_columns(s: &[u8], r: Record, index: u32, out: &mut [u32], count: usize)
     requires { ⌜ Good (length (now s)) r × (count ≤ length (now out)) × (index + count ≤ magnitude32 (r .cx)) ⌝ }
-    ensures { λ _. ⌜ (length (now (out .exit)) ≡ length (now (out .entry))) × (r .source .present ≡ true → (k : ℕ) → k < count → getD (now (out .exit)) k 0 ≡ sourceColumn (r .source .x) (r .«cx_src») (r .cx) (index + k)) ⌝ }
+    ensures { λ _. ⌜ Filled (λ k. sourceColumn (r .source .x) (r .«cx_src») (r .cx) (index + k)) (now (out .entry)) (cond (r .source .present) count 0) (now (out .exit)) ⌝ }
 {
     let p = r.source;
     if p.present {
@@ -37,10 +35,10 @@ fn source_columns(s: &[u8], r: Record, index: u32, out: &mut [u32], count: usize
     }
 }
 
-// The columns of the mask that the target reads, if there is a mask.
-fn mask_columns(s: &[u8], r: Record, index: u32, out: &mut [u32], count: usize)
+// The columns of the mask, alike.
+fn fill_mask_columns(s: &[u8], r: Record, index: u32, out: &mut [u32], count: usize)
     requires { ⌜ Good (length (now s)) r × (count ≤ length (now out)) × (index + count ≤ magnitude32 (r .cx)) ⌝ }
-    ensures { λ _. ⌜ (length (now (out .exit)) ≡ length (now (out .entry))) × (r .mask .present ≡ true → (k : ℕ) → k < count → getD (now (out .exit)) k 0 ≡ maskPixel (signed32 (r .mask .x)) (index + k) (r .mask .header .width)) ⌝ }
+    ensures { λ _. ⌜ Filled (λ k. maskPixel (signed32 (r .mask .x)) (index + k) (r .mask .header .width)) (now (out .entry)) (cond (r .mask .present) count 0) (now (out .exit)) ⌝ }
 {
     let p = r.mask;
     if p.present {
@@ -60,22 +58,22 @@ fn rows(
     masks: Masks,
     table: &[u8; 510],
     palette: &[u32; 256],
-    columns: &[u32],
-    spots: &[u32],
+    source_columns: &[u32],
+    mask_columns: &[u32],
     t: Target,
     brush: u32,
 )
-    requires { ⌜ Good (length (now s)) r × (masks ≡ masksIn (r .source .header) (isFormat1 (r .action))) × Widens (now table) ⌝ }
-    requires { ⌜ (now palette ≡ picturePalette (now s) (r .source)) × Colours (now palette) ⌝ }
-    requires { ⌜ Lies width height r t × Mapped r t (now columns) (now spots) ⌝ }
-    requires { ⌜ (length (now surface) ≡ width * height) × ((at + t .columns .count * t .rows .count) * stride ≤ length (now journal)) ⌝ }
+    requires { ⌜ SourceRow (now s) r masks (now table) (now palette) (now «source_columns») ⌝ }
+    requires { ⌜ MaskRow (now s) r (now «mask_columns») ⌝ }
+    requires { ⌜ Lies width height r t × Mapped r t (now «source_columns») (now «mask_columns») ⌝ }
+    requires { ⌜ Room width height t at (now surface) (now journal) ⌝ }
     ensures { λ _. ⌜ now (surface .exit) ≡ drawn width (paintOn t (meaningIn (now (s .entry)) r) brush) (placesIn t) (now (surface .entry)) ⌝ }
     ensures { λ _. ⌜ now (journal .exit) ≡ sets (now (journal .entry)) (at * stride) (bytesOf (saved width (paintOn t (meaningIn (now (s .entry)) r) brush) (placesIn t) (now (surface .entry)))) ⌝ }
 {
     let action = r.action;
     let rule = meaning::rule(action, brush);
     let x = t.columns.at as u32;
-    let count = columns.len();
+    let count = source_columns.len();
     let mut colours = [0u32; MOST];
     let mut bits = [0u8; MOST];
     let mut next = at;
@@ -89,11 +87,11 @@ fn rows(
             masks,
             table,
             palette,
-            columns,
+            source_columns,
             j,
             &mut colours,
         );
-        meaning::rows::of_mask(s, r, spots, j, &mut bits);
+        meaning::rows::of_mask(s, r, mask_columns, j, &mut bits);
         paint::row(
             surface,
             width,
@@ -124,7 +122,7 @@ pub fn clipped(
     brush: u32,
 )
     requires { ⌜ Good (length (now s)) r × (t ≡ targetOf width height clip (r .bounds) (r .x) (r .y) (r .cx) (r .cy)) ⌝ }
-    requires { ⌜ (width ≤ 4096) × (length (now surface) ≡ width * height) × ((at + t .columns .count * t .rows .count) * stride ≤ length (now journal)) ⌝ }
+    requires { ⌜ (width ≤ 4096) × Room width height t at (now surface) (now journal) ⌝ }
     ensures { λ _. ⌜ now (surface .exit) ≡ drawn width (paintOn t (meaningIn (now (s .entry)) r) brush) (placesIn t) (now (surface .entry)) ⌝ }
     ensures { λ _. ⌜ now (journal .exit) ≡ sets (now (journal .entry)) (at * stride) (bytesOf (saved width (paintOn t (meaningIn (now (s .entry)) r) brush) (placesIn t) (now (surface .entry)))) ⌝ }
 {
@@ -132,15 +130,15 @@ pub fn clipped(
         return;
     }
     let action = r.action;
-    let masks = meaning::masks(r.source.header, meaning::is_format1(action));
+    let masks = sample::colour::masks(r.source.header, meaning::is_format1(action));
     let table = pixel::widen::table();
     let palette = picture::palette(s, r.source);
     let index = t.columns.index as u32;
     let count = t.columns.count as usize;
-    let mut columns = [0u32; MOST];
-    source_columns(s, r, index, &mut columns, count);
-    let mut spots = [0u32; MOST];
-    mask_columns(s, r, index, &mut spots, count);
+    let mut source_columns = [0u32; MOST];
+    fill_source_columns(s, r, index, &mut source_columns, count);
+    let mut mask_columns = [0u32; MOST];
+    fill_mask_columns(s, r, index, &mut mask_columns, count);
     rows(
         surface,
         width,
@@ -152,8 +150,8 @@ pub fn clipped(
         masks,
         &table,
         &palette,
-        &columns[..count],
-        &spots[..count],
+        &source_columns[..count],
+        &mask_columns[..count],
         t,
         brush,
     );

@@ -12,7 +12,7 @@ use Rattle.words.proofs.ChoiceLaws.{given-none, orElse-none}
 use Rattle.journal.specs.Records.{stride, Entry, bytesOf}
 use Rattle.journal.proofs.RecordLaws.{length-bytes}
 use Rattle.journal.proofs.UndoLaws.{front-stored}
-use Rattle.judge.specs.Judged.{statusOf}
+use Rattle.judge.specs.Check.{statusOf}
 use Rattle.lent.specs.Lent.{Lent, outcome, settle, records}
 use Rattle.lent.specs.Playing.{drawnBy, appended, played, roomStatus, playOf}
 use Rattle.player.specs.Calls.{Play, work, play}

@@ -21,7 +21,7 @@ use Rattle.sample.specs.Stored.{stored1, stored, storedRow}
 use Rattle.sample.specs.Colour.{shown}
 use Rattle.sample.specs.At.{pixelAt}
 use Rattle.sample.proofs.AtLaws.{column-in}
-use Rattle.judge.specs.declared.Image.{Image}
+use Rattle.judge.specs.declared.Picture.{Picture}
 use Rattle.judge.specs.declared.Record.{Record}
 use Rattle.judge.specs.Record.{bitsPart}
 use Rattle.judge.specs.Good.{Fit}
@@ -37,7 +37,7 @@ filled-by f g n d₀ d e p = record { long = p .long; front = λ k h. p .front k
 
 -- ---- what a present picture is known for
 
-pub fields-ok : {len : ℕ} (p : Image) → Fit len p → p .present ≡ true → badFields (p .header) ≡ false
+pub fields-ok : {len : ℕ} (p : Picture) → Fit len p → p .present ≡ true → badFields (p .header) ≡ false
 fields-ok p f t = passed-fields _ (p .header) (f .sound t .header-ok)
 
 stored-lt : (t : Bool) (n row : ℕ) → row < n → storedRow t n row < n
@@ -46,7 +46,7 @@ stored-lt true n row h = h
 stored-lt false n row h = omega arith
 
 -- a row's bytes reach to the end of each column's pixel
-pub line-reaches : (s : List ℕ) (p : Image) (row : ℕ) (line columns : List ℕ) → Fit (length s) p → p .present ≡ true → row < rows (p .header)
+pub line-reaches : (s : List ℕ) (p : Picture) (row : ℕ) (line columns : List ℕ) → Fit (length s) p → p .present ≡ true → row < rows (p .header)
     → line ≡ pictureRow s p row → InPicture (p .header .width) columns → InLine (p .header .bits) line columns
 line-reaches s p row line columns f t r e i k l =
     column-in (p .header) (bitsPart s p) (rowLength (p .header .width) (p .header .bits)) (rows (p .header)) (storedRow (topDown (p .header)) (rows (p .header)) row) refl refl

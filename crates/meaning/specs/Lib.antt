@@ -1,3 +1,3 @@
 pub mod Sampling
-pub mod Reading
+pub mod Rows
 pub mod Meaning

@@ -10,23 +10,15 @@ ghost use Rattle.meaning.specs.Sampling.{sourceStart, mirrored, sourceCo
 fn source_start(x: u32, source: u32) -> u32
     ensures { λ r. ⌜ (r ≡ sourceStart x source) × (r ≤ x) ⌝ }
 {
-    if source < 2147483648 {
-        return x;
-    }
     let m = words::magnitude(source);
-    if m < x {
-        return x - m;
-    }
-    0
+    words::either(words::is_negative(source), words::saturating_sub(x, m), x)
 }
 
 fn is_mirrored(target: u32, source: u32) -> bool
     ensures { λ r. ⌜ r ≡ mirrored target source ⌝ }
 {
-    if target < 2147483648 {
-        return 2147483648 <= source;
-    }
-    source < 2147483648
+    let back = words::is_negative(source);
+    words::choose(words::is_negative(target), !back, back)
 }
 
 // The column (or row) of the source that column (or row) i of the target reads.

@@ -2,22 +2,12 @@
 // once a play: the rule, and the columns that the source and the mask are read at.
 ghost use mathlib.Core.Path.{_≡_};
 ghost use Rattle.meaning.specs.Sampling.{isFormat1};
-ghost use Rattle.meaning.specs.Reading.{masksIn};
 ghost use Rattle.meaning.specs.Meaning.{ruleOf};
-use dib::Header;
 use judge::Action;
 use paint::Rule;
-use sample::Masks;
 
 pub mod columns;
 pub mod rows;
-
-// The masks of a header in force.
-pub fn masks(h: Header, format1: bool) -> Masks
-    ensures { λ r. ⌜ r ≡ masksIn h format1 ⌝ }
-{
-    sample::colour::masks(h.bits, h.compression, h.red, h.green, h.blue, h.alpha, format1)
-}
 
 // What a pixel becomes, by the record's operation and the brush.
 pub fn rule(a: Action, brush: u32) -> Rule

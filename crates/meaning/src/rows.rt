@@ -1,21 +1,16 @@
 // A row of source pixels and a row of mask bits. Of an absent source or mask all are 0: the rule does not look at them.
 ghost use mathlib.Core.Path.{_≡_};
-ghost use mathlib.Core.Bool.{true};
 ghost use Prim.Native.Nat.{ℕ, _*_, _≤_, _<_};
 ghost use lib.ListN.{length, getD};
 ghost use Rattle.words.specs.Bytes.{magnitude32, signed32};
 ghost use Rattle.words.specs.Filled.{Filled};
 ghost use Rattle.pixel.specs.Place.{maskPixel};
-ghost use Rattle.pixel.specs.Widen.{Widens};
 ghost use Rattle.dib.specs.Header.{rows as rowsOf};
-ghost use Rattle.sample.specs.At.{Colours};
 ghost use Rattle.sample.specs.Stored.{stored1};
-ghost use Rattle.judge.specs.Good.{Good};
-ghost use Rattle.picture.specs.Palette.{picturePalette};
-ghost use Rattle.meaning.specs.Sampling.{isFormat1, sourceColumn, sourceShown, maskShown};
-ghost use Rattle.meaning.specs.Reading.{masksIn, InPicture};
+ghost use Rattle.meaning.specs.Sampling.{sourceColumn, sourceShown, maskShown};
+ghost use Rattle.meaning.specs.Rows.{SourceRow, MaskRow};
+use dib::Masks;
 use judge::Record;
-use sample::Masks;
 
 fn clear(out: &mut [u32], count: usize)
     requires { ⌜ count ≤ length (now out) ⌝ }
@@ -63,9 +58,8 @@ pub fn of_source(
     j: u32,
     out: &mut [u32],
 )
-    requires { ⌜ Good (length (now s)) r × (m ≡ masksIn (r .source .header) (isFormat1 (r .action))) ⌝ }
-    requires { ⌜ Widens (now t) × (now palette ≡ picturePalette (now s) (r .source)) × Colours (now palette) ⌝ }
-    requires { ⌜ (j < magnitude32 (r .cy)) × (length (now columns) ≤ length (now out)) × (r .source .present ≡ true → InPicture (r .source .header .width) (now columns)) ⌝ }
+    requires { ⌜ SourceRow (now s) r m (now t) (now palette) (now columns) ⌝ }
+    requires { ⌜ (j < magnitude32 (r .cy)) × (length (now columns) ≤ length (now out)) ⌝ }
     ensures { λ _. ⌜ Filled (λ k. sourceShown (now (s .entry)) r (getD (now (columns .entry)) k 0) (sourceColumn (r .source .y) (r .«cy_src») (r .cy) j)) (now (out .entry)) (length (now (columns .entry))) (now (out .exit)) ⌝ }
 {
     let p = r.source;
@@ -80,7 +74,8 @@ pub fn of_source(
 
 // The mask bits of these columns of the mask, in the row that row j of the target reads.
 pub fn of_mask(s: &[u8], r: Record, columns: &[u32], j: u32, out: &mut [u8])
-    requires { ⌜ Good (length (now s)) r × (length (now columns) ≤ length (now out)) × (r .mask .present ≡ true → InPicture (r .mask .header .width) (now columns)) ⌝ }
+    requires { ⌜ MaskRow (now s) r (now columns) ⌝ }
+    requires { ⌜ length (now columns) ≤ length (now out) ⌝ }
     ensures { λ _. ⌜ Filled (λ k. maskShown (now (s .entry)) r (getD (now (columns .entry)) k 0) (maskPixel (signed32 (r .mask .y)) j (rowsOf (r .mask .header)))) (now (out .entry)) (length (now (columns .entry))) (now (out .exit)) ⌝ }
 {
     let p = r.mask;

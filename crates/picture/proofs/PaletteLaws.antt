@@ -1,24 +1,38 @@
--- The table of a palette lies in its header part. Assumes nothing.
-use mathlib.Core.Path.{_≡_, sym, ap, ap₂, _∙_}
+-- The table of a palette lies in its header part, because status 8 measured it. Assumes nothing.
+use mathlib.Core.Path.{_≡_, refl, ap, ap₂, _∙_}
 use mathlib.Core.Bool.{Bool, true, false}
 use mathlib.Core.List.{List}
-use Prim.Native.Nat.{ℕ, _+_, _-_, _*_, _≤_}
+use Prim.Native.Nat.{ℕ, _+_, _-_, _*_, _≤_, zero-le}
 use native.Mathlib.Omega.{arith}
-use lib.Dec.{ltb}
+use lib.Dec.{leb, ltb}
 use lib.ListN.{length, take, drop, length-take, length-drop}
 use lib.Seq.{take-all}
 use borrow.Author.Tests.{ltb-false}
-use Rattle.words.proofs.ChoiceLaws.{or-none}
+use Rattle.words.specs.Tabulated.{tabulate}
+use Rattle.words.proofs.ChoiceLaws.{or-none, cond-upto}
 use Rattle.dib.specs.declared.Header.{Header}
 use Rattle.dib.specs.Header.{tableStart, entries}
 use Rattle.dib.specs.HeaderStatus.{badFields, badHeader}
 use Rattle.sample.specs.Palette.{paletteOf}
-use Rattle.picture.specs.Palette.{shownEntries, headerPalette}
+use Rattle.picture.specs.Palette.{black, shownEntries, headerPalette}
+
+-- a header part that status 8 lets pass has room for its table
+pub table-room : (len : ℕ) (h : Header) → badHeader len h ≡ false → tableStart h + 4 * entries h ≤ len
+unfolding badHeader
+table-room len h e = ltb-false len _ (or-none (badFields h) (ltb len (tableStart h + 4 * entries h)) e .1)
+
+-- the palette shows all of them, or none
+pub shown-some : (h : Header) → shownEntries h ≤ entries h
+shown-some h = cond-upto (leb (h .bits) 8) (entries h) 0 (omega arith) zero-le
+
+-- a palette of no entries is black
+pub no-colours : (table : List ℕ) → paletteOf table 0 ≡ black
+unfolding paletteOf tabulate
+no-colours table = refl
 
 module _ (l : List ℕ) (h : Header) (e : badHeader (length l) h ≡ false) where
-  pub room : tableStart h + 4 * entries h ≤ length l
-  unfolding badHeader
-  room = ltb-false (length l) _ (or-none (badFields h) (ltb (length l) (tableStart h + 4 * entries h)) e .1)
+  abbrev room : tableStart h + 4 * entries h ≤ length l
+  room = table-room (length l) h e
 
   module _ (n from : ℕ) (c : from ≡ tableStart h) where
     pub start-in : from ≤ length l

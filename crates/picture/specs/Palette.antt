@@ -9,7 +9,7 @@ use Rattle.dib.specs.declared.Header.{Header}
 use Rattle.dib.specs.Header.{tableStart, entries, topDown, rows}
 use Rattle.sample.specs.Palette.{paletteOf}
 use Rattle.sample.specs.Stored.{storedRow, rowBytes}
-use Rattle.judge.specs.declared.Image.{Image}
+use Rattle.judge.specs.declared.Picture.{Picture}
 use Rattle.judge.specs.Record.{headerPart, bitsPart}
 
 abbrev pub black : List ℕ
@@ -23,10 +23,10 @@ unfoldable pub headerPalette : (header : List ℕ) → Header → List ℕ
 headerPalette header h = paletteOf (drop (tableStart h) header) (shownEntries h)
 
 -- of an absent picture all is black
-unfoldable pub picturePalette : List ℕ → Image → List ℕ
+unfoldable pub picturePalette : List ℕ → Picture → List ℕ
 picturePalette s p = cond (p .present) (headerPalette (headerPart s p) (p .header)) black
 
 -- the bytes of a row, counted from the top
-abbrev pub pictureRow : List ℕ → Image → (row : ℕ) → List ℕ
+abbrev pub pictureRow : List ℕ → Picture → (row : ℕ) → List ℕ
 pictureRow s p row =
     rowBytes (bitsPart s p) (rowLength (p .header .width) (p .header .bits)) (storedRow (topDown (p .header)) (rows (p .header)) row)

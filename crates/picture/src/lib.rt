@@ -10,10 +10,10 @@ ghost use Rattle.judge.specs.Record.{headerPart, bitsPart};
 ghost use Rattle.judge.specs.Good.{Fit};
 ghost use Rattle.picture.specs.Palette.{black as blackOf, shownEntries, headerPalette, picturePalette, pictureRow};
 use dib::Header;
-use judge::Image;
+use judge::Picture;
 
 // The header part of a picture: the record's own bytes.
-pub fn header_part(s: &[u8], p: Image) -> &[u8]
+pub fn header_part(s: &[u8], p: Picture) -> &[u8]
     requires { ⌜ Fit (length (now s)) p ⌝ }
     ensures { λ r. ⌜ now r ≡ headerPart (now (s .entry)) p ⌝ }
 {
@@ -21,7 +21,7 @@ pub fn header_part(s: &[u8], p: Image) -> &[u8]
 }
 
 // The bits part of a picture: the record's own bytes.
-pub fn bits_part(s: &[u8], p: Image) -> &[u8]
+pub fn bits_part(s: &[u8], p: Picture) -> &[u8]
     requires { ⌜ Fit (length (now s)) p ⌝ }
     ensures { λ r. ⌜ now r ≡ bitsPart (now (s .entry)) p ⌝ }
 {
@@ -36,7 +36,7 @@ pub fn black() -> [u32; 256]
 }
 
 // How many entries the palette shows: none at 16 bits and up.
-fn shown_entries(h: Header) -> usize
+pub fn shown_entries(h: Header) -> usize
     ensures { λ r. ⌜ (r ≡ shownEntries h) × (r ≤ entries h) ⌝ }
 {
     if h.bits <= 8 {
@@ -55,7 +55,7 @@ fn header_palette(header: &[u8], h: Header) -> [u32; 256]
 }
 
 // The palette of a picture; of an absent one it is black.
-pub fn palette(s: &[u8], p: Image) -> [u32; 256]
+pub fn palette(s: &[u8], p: Picture) -> [u32; 256]
     requires { ⌜ Fit (length (now s)) p ⌝ }
     ensures { λ r. ⌜ (r ≡ picturePalette (now (s .entry)) p) × Colours r ⌝ }
 {
@@ -67,7 +67,7 @@ pub fn palette(s: &[u8], p: Image) -> [u32; 256]
 }
 
 // The bytes of a row of a present picture, counted from its top.
-pub fn row(s: &[u8], p: Image, row: u32) -> &[u8]
+pub fn row(s: &[u8], p: Picture, row: u32) -> &[u8]
     requires { ⌜ Fit (length (now s)) p × (p .present ≡ true) × (row < rows (p .header)) ⌝ }
     ensures { λ r. ⌜ now r ≡ pictureRow (now (s .entry)) p row ⌝ }
 {

@@ -16,7 +16,7 @@ use Rattle.judge.specs.declared.Record.{Record}
 use Rattle.judge.specs.Record.{recordOf}
 use Rattle.judge.specs.declared.Checked.{Checked}
 use Rattle.judge.specs.declared.Checked.the-variants.{Accepted, Refused}
-use Rattle.judge.specs.Judged.{statusOf, settled, checkOf, statusIn}
+use Rattle.judge.specs.Check.{statusOf, settled, checkOf, statusIn}
 use Rattle.judge.proofs.CheckLaws.{check-number}
 use Rattle.judge.proofs.AcceptedLaws.{accepted as accepted-is}
 use Rattle.region.specs.declared.Target.{Target}

@@ -5,7 +5,7 @@ use Rattle.region.specs.declared.Rectangle.{Rectangle}
 use Rattle.journal.specs.Drawing.{Work}
 use Rattle.lent.specs.Lent.{Lent, Outcome, outcome, settle}
 use Rattle.lent.specs.Playing.{counted, played, roomStatus, playOf}
-use Rattle.judge.specs.Judged.{statusOf}
+use Rattle.judge.specs.Check.{statusOf}
 use Rattle.meaning.specs.Meaning.{meaningOf, workOf}
 
 -- "a play's record, clip and brush"

@@ -1,74 +1,79 @@
--- A reading by what the code knows at each return, and that its parts lie in the record. Assumes nothing.
+-- What is read of the picture that is asked for: it fits its record, so its parts lie in it, its table in its header part, and its palette
+-- is the one that its numbers show. Where there is none, all is empty and black. Assumes nothing.
 use mathlib.Core.Path.{_≡_, refl, sym, ap, _∙_, subst}
 use mathlib.Core.Bool.{Bool, true, false, cond}
 use mathlib.Core.List.{List}
-use Prim.Native.Nat.{ℕ, _+_, _≤_, zero-le}
+use Prim.Native.Nat.{ℕ, _+_, _*_, _≤_, zero-le}
 use native.Mathlib.Omega.{arith}
-use lib.ListN.{length}
+use lib.ListN.{length, drop}
+use Rattle.words.proofs.ChoiceLaws.{cond-true, cond-false}
 use Rattle.dib.specs.HeaderStatus.{badFields}
-use Rattle.dib.proofs.HeaderLaws.{passed-fields}
-use Rattle.judge.specs.declared.Image.{Image}
+use Rattle.dib.proofs.HeaderLaws.{passed-fields, entries-bound}
+use Rattle.sample.specs.Palette.{paletteOf}
+use Rattle.judge.specs.declared.Picture.{Picture}
 use Rattle.judge.specs.declared.Record.{Record}
 use Rattle.judge.specs.declared.Checked.{Checked}
 use Rattle.judge.specs.declared.Checked.the-variants.{Accepted, Refused}
-use Rattle.judge.specs.Judged.{checkOf}
+use Rattle.judge.specs.Record.{headerPart}
+use Rattle.judge.specs.Check.{checkOf}
 use Rattle.judge.specs.Good.{Fit, Good}
 use Rattle.judge.proofs.AcceptedLaws.{accepted}
-use Rattle.picture.specs.Palette.{black, picturePalette}
+use Rattle.picture.specs.Palette.{headerPalette}
+use Rattle.picture.proofs.PaletteLaws.{table-room, shown-some, no-colours}
 use Rattle.reading.specs.declared.Reading.{Reading}
-use Rattle.reading.specs.Reading.{wanted, emptyReading, fullReading, pictureReading, readingIn, readingOf, paletteIn, readPalette}
+use Rattle.reading.specs.Reading.{
+  Found, present, none, wanted, emptyReading, fullReading, foundIn, foundOf, readingOf, readingFrom, readPalette, paletteFrom, headerBytes, shownPalette, Within, IsReading,
+}
 
-pub wanted-fit : {len : ℕ} (mask : Bool) (r : Record) → Good len r → Fit len (wanted mask r)
+wanted-fit : {len : ℕ} (mask : Bool) (r : Record) → Good len r → Fit len (wanted mask r)
 wanted-fit true r g = g .mask
 wanted-fit false r g = g .source
 
--- ---- the answers
+-- ---- a picture that is there, and none
+
+module _ (s : List ℕ) (mask : Bool) (p : Picture) (f : Fit (length s) p) (t : p .present ≡ true) where
+  pub picture-fields : badFields (p .header) ≡ false
+  picture-fields = passed-fields _ (p .header) (f .sound t .header-ok)
+
+  full-within : Within (length s) (fullReading p)
+  full-within =
+      let few = entries-bound (p .header) picture-fields in
+      record {
+        header = f .header-in;
+        view = omega (arith, f .bits-in, f .sound t .rows-ok);
+        table = omega (arith, table-room (p .«bmi_len») (p .header) (f .sound t .header-ok), shown-some (p .header));
+        few = omega (arith, few, shown-some (p .header));
+      }
+
+  pub reading-present : foundOf s mask ≡ present p → IsReading s mask (fullReading p)
+  unfolding readingOf readPalette shownPalette headerBytes headerPart headerPalette
+  reading-present e = record { answer = sym (ap readingFrom e); within = full-within; palette = sym (ap (paletteFrom s) e) }
+
+pub reading-none : (s : List ℕ) (mask : Bool) (k : ℕ) → foundOf s mask ≡ none k → IsReading s mask (emptyReading k)
+unfolding readingOf readPalette shownPalette
+reading-none s mask k e = record {
+  answer = sym (ap readingFrom e);
+  within = record { header = zero-le; view = zero-le; table = zero-le; few = zero-le };
+  palette = no-colours _ ∙ sym (ap (paletteFrom s) e);
+}
+
+-- ---- which it is, by what the code knows at each return
 
 module _ (s : List ℕ) (mask : Bool) (v : Checked) (e : v ≡ checkOf s) where
-  module _ (r : Record) (p : Image) (q : v ≡ Accepted r) (w : p ≡ wanted mask r) where
+  pub refused-none : (k : ℕ) → v ≡ Refused k → foundOf s mask ≡ none k
+  unfolding foundOf
+  refused-none k q = ap (foundIn mask) (sym e ∙ q)
+
+  module _ (r : Record) (p : Picture) (q : v ≡ Accepted r) (w : p ≡ wanted mask r) where
     pub read-fit : Fit (length s) p
     read-fit = subst (Fit (length s)) (sym w) (wanted-fit mask r (accepted s r (sym q ∙ e) .1))
 
-    pub read-fields : p .present ≡ true → badFields (p .header) ≡ false
-    read-fields t = passed-fields _ (p .header) (read-fit .sound t .header-ok)
+    found-is : foundOf s mask ≡ cond (p .present) (present p) (none 0)
+    unfolding foundOf
+    found-is = ap (foundIn mask) (sym e ∙ q) ∙ sym (ap (λ (x : Picture). cond (x .present) (present x) (none 0)) w)
 
-    pub read-accepted : (d : Reading) → d ≡ pictureReading p → d ≡ readingOf s mask
-    unfolding readingOf
-    read-accepted d g = g ∙ ap pictureReading w ∙ ap (readingIn mask) (sym q ∙ e)
+    pub found-present : p .present ≡ true → foundOf s mask ≡ present p
+    found-present t = found-is ∙ cond-true _ _ _ t
 
-    pub palette-accepted : (d : List ℕ) → d ≡ picturePalette s p → d ≡ readPalette s mask
-    unfolding readPalette
-    palette-accepted d g = g ∙ ap (picturePalette s) w ∙ ap (paletteIn s mask) (sym q ∙ e)
-
-  pub read-refused : (k : ℕ) (d : Reading) → v ≡ Refused k → d ≡ emptyReading k → d ≡ readingOf s mask
-  unfolding readingOf
-  read-refused k d q g = g ∙ ap (readingIn mask) (sym q ∙ e)
-
-  pub palette-refused : (k : ℕ) (d : List ℕ) → v ≡ Refused k → d ≡ black → d ≡ readPalette s mask
-  unfolding readPalette
-  palette-refused k d q g = g ∙ ap (paletteIn s mask) (sym q ∙ e)
-
--- ---- the parts lie in the record
-
-pub record Within (len : ℕ) (r : Reading) : Type 0 where
-  pub header : r .«header_at» + r .«header_len» ≤ len
-  pub view : r .«view_at» + r .«view_len» ≤ len
-
-empty-within : (len k : ℕ) → Within len (emptyReading k)
-empty-within len k = record { header = zero-le; view = zero-le }
-
-picture-within : (len : ℕ) (p : Image) → Fit len p → Within len (pictureReading p)
-unfolding pictureReading
-picture-within len p f = go (p .present) refl
-  where
-    go : (t : Bool) → p .present ≡ t → Within len (cond t (fullReading p) (emptyReading 0))
-    go false a = empty-within len 0
-    go true a = record { header = f .header-in; view = omega (arith, f .bits-in, f .sound a .rows-ok) }
-
-checked-within : (s : List ℕ) (mask : Bool) (v : Checked) → v ≡ checkOf s → Within (length s) (readingIn mask v)
-checked-within s mask (Accepted r) e = picture-within (length s) (wanted mask r) (wanted-fit mask r (accepted s r e .1))
-checked-within s mask (Refused k) e = empty-within (length s) k
-
-pub within : (s : List ℕ) (mask : Bool) (r : Reading) → r ≡ readingOf s mask → Within (length s) r
-unfolding readingOf
-within s mask r e = subst (Within (length s)) (sym e) (checked-within s mask (checkOf s) refl)
+    pub found-none : p .present ≡ false → foundOf s mask ≡ none 0
+    found-none t = found-is ∙ cond-false _ _ _ t

@@ -17,7 +17,7 @@ returns : tie.Need-returns
 unfolding headerBytes
 returns c =
     let s = c .before .before .before .args .s in (
-      c .part .ensures .0 ∙ ap (headerBytes (s .now)) (c .before .read .ensures),
+      c .part .ensures .bytes ∙ ap (headerBytes (s .now)) (c .before .read .ensures),
       c .part .ensures .1 ∙ ap {B = ℕ × ℕ} (λ (r : Reading). (s .ptr .0, s .ptr .1 + r .«header_at»)) (c .before .read .ensures),
     )
 

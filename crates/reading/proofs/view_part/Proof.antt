@@ -17,7 +17,7 @@ returns : tie.Need-returns
 unfolding viewBytes
 returns c =
     let s = c .before .before .before .args .s in (
-      c .part .ensures .0 ∙ ap (viewBytes (s .now)) (c .before .read .ensures),
+      c .part .ensures .bytes ∙ ap (viewBytes (s .now)) (c .before .read .ensures),
       c .part .ensures .1 ∙ ap {B = ℕ × ℕ} (λ (r : Reading). (s .ptr .0, s .ptr .1 + r .«view_at»)) (c .before .read .ensures),
     )
 

@@ -11,7 +11,7 @@ part-requires c κs = search needs
 
 returns : tie.Need-returns
 unfolding rowBytes
-returns c = c .part .ensures .0
+returns c = c .part .ensures .bytes
 
 pub row-bytes-spec : {M : Type 1} → statement M
 row-bytes-spec = tie.close (tie.spec mul-part part-requires returns)
