@@ -2,3 +2,4 @@ pub mod FillingLaws
 pub mod ColumnLaws
 pub mod FitLaws
 pub mod RowLaws
+pub mod SignedSamplingLaws

@@ -1,3 +1,4 @@
 pub mod Sampling
 pub mod Rows
 pub mod Meaning
+pub mod SignedSampling
