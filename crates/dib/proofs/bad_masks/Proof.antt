@@ -1,3 +1,4 @@
+-- The code's expression is the definition's.
 use Rattle.dib.specs.HeaderStatus.{badMasks}
 use Rattle.dib.proofs.HeaderLaws.{sound, depth-bounds}
 use borrow.Author.Needs.{needs}

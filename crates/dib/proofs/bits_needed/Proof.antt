@@ -1,3 +1,4 @@
+-- A picture within the limits takes at most 2^30 bytes, so the product fits.
 use native.Mathlib.Omega.{arith}
 use mathlib.Core.Path.{ap₂}
 use Prim.Native.Nat.{_*_}
@@ -6,15 +7,6 @@ use Rattle.dib.proofs.HeaderLaws.{bits-small}
 use borrow.Author.Needs.{needs}
 use Rattle.dib.proofs.bits_needed.Statement.{statement}
 use Rattle.dib.proofs.bits_needed.Tie as tie
-
-row-length-requires : tie.Need-row-length-requires
-row-length-requires c κs = search needs
-
-magnitude-requires : tie.Need-magnitude-requires
-magnitude-requires c κs = search needs
-
-cast-result : tie.Need-cast-result
-cast-result c = search needs
 
 mul-result : tie.Need-mul-result
 unfolding bitsNeeded
@@ -25,5 +17,4 @@ unfolding bitsNeeded
 returns c = ap₂ _*_ (c .before .row-length .ensures) (c .magnitude .ensures)
 
 pub bits-needed-spec : {M : Type 1} → statement M
-bits-needed-spec =
-    tie.close (tie.spec row-length-requires magnitude-requires cast-result mul-result returns)
+bits-needed-spec = tie.close (tie.spec (λ c κs. search needs) (λ c κs. search needs) (λ c. search needs) mul-result returns)

@@ -30,4 +30,5 @@ returns-2 c =
 pub status-spec : {M : Type 1} → statement M
 status-spec =
     tie.close (tie.spec
-    (λ c κs. search needs) returns bad-masks-requires bits-needed-requires (λ c κs. search needs) (λ c κs. search needs) returns-2)
+    (λ c κs. search needs) returns bad-masks-requires bits-needed-requires (λ c κs. search needs) (λ c κs. search needs)
+    returns-2)

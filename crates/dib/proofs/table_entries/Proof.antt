@@ -11,6 +11,4 @@ unfolding entries
 returns c = (cc (full-table (c .before .before .before .before .before .args .h .bits)), omega arith)
 
 pub table-entries-spec : {M : Type 1} → statement M
-table-entries-spec =
-    tie.close (tie.spec
-    (λ c κs. search needs) (λ c κs. search needs) (λ c κs. search needs) (λ c. search needs) returns)
+table-entries-spec = tie.close (tie.spec (λ c κs. search needs) (λ c κs. search needs) (λ c κs. search needs) (λ c. search needs) returns)

@@ -1,3 +1,4 @@
+-- By the test: 0 accepts, all else refuses.
 use Rattle.judge.proofs.CheckLaws.{accepts, refuses}
 use Rattle.judge.proofs.settle.Statement.{statement}
 use Rattle.judge.proofs.settle.Tie as tie

@@ -1,3 +1,4 @@
+-- The case that was met is the check's answer, and its number is the status.
 use Rattle.judge.proofs.CheckLaws.{number-of}
 use borrow.Author.Needs.{needs}
 use Rattle.judge.proofs.status.Statement.{statement}

@@ -1,3 +1,4 @@
+-- Above one of two bounds is above the lower.
 use mathlib.Core.Path.{ap, _∙_}
 use Prim.Native.Nat.{ℕ, _^_}
 use lib.Dec.{ltb}
@@ -7,12 +8,9 @@ use borrow.Author.Needs.{needs}
 use Rattle.dib.proofs.limits.bad_colours.Statement.{statement}
 use Rattle.dib.proofs.limits.bad_colours.Tie as tie
 
-most-colours-requires : tie.Need-most-colours-requires
-most-colours-requires c κs = search needs
-
 returns : tie.Need-returns
 unfolding badColours
 returns c = let a = c .before .args in ap (λ (n : ℕ). ltb n (a .colours)) (c .«most-colours» .ensures) ∙ or-min (2 ^ a .bits) 256 (a .colours)
 
 pub bad-colours-spec : {M : Type 1} → statement M
-bad-colours-spec = tie.close (tie.spec most-colours-requires returns)
+bad-colours-spec = tie.close (tie.spec (λ c κs. search needs) returns)

@@ -1,3 +1,4 @@
+-- The code's expression is the definition's.
 use mathlib.Core.Path.{refl}
 use Rattle.pixel.specs.Place.{isDepth}
 use Rattle.dib.proofs.limits.is_depth.Statement.{statement}

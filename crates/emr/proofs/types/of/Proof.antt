@@ -24,5 +24,5 @@ returns-4 c = row-unlisted _ _ _ _ (c .before .before .before .if1 .left) (c .be
 pub of-spec : {M : Type 1} → statement M
 of-spec =
     tie.close (tie.spec
-    (λ c κs. search needs) returns (λ c κs. search needs) returns-2 (λ c κs. search needs) returns-3
-    (λ c κs. search needs) returns-4)
+    (λ c κs. search needs) returns (λ c κs. search needs) returns-2 (λ c κs. search needs) returns-3 (λ c κs. search needs)
+    returns-4)

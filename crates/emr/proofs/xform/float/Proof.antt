@@ -1,3 +1,4 @@
+-- A pattern above infinity's is a NaN's, and there is one NaN.
 use borrow.Author.Tests.{lt-ltb, le-ltb}
 use mathlib.Core.Path.{_≡_, refl, _∙_, ap, sym, subst}
 use mathlib.Core.Bool.{Bool, true, not}
@@ -22,9 +23,6 @@ nan-above n h = only-nan _ (sym (nanBits-is binary32 n) ∙ (nanBits-above binar
 no-nan : (n : ℕ) → n % 2147483648 ≤ 2139095040 → T (not (nanBits binary32 n))
 no-nan n h = subst (λ (b : Bool). T (not b)) (sym (nanBits-above binary32 n ∙ le-ltb _ _ h)) tt
 
-read-u32-requires : tie.Need-read-u32-requires
-read-u32-requires c κs = search needs
-
 float-from-bits-result : tie.Need-float-from-bits-result
 float-from-bits-result c = no-nan _ (c .if1 .left)
 
@@ -36,4 +34,4 @@ returns-2 : tie.Need-returns-2
 returns-2 c = ap (ofBits binary32) (c .before .read-u32 .ensures)
 
 pub float-spec : {M : Type 1} → statement M
-float-spec = tie.close (tie.spec read-u32-requires float-from-bits-result returns returns-2)
+float-spec = tie.close (tie.spec (λ c κs. search needs) float-from-bits-result returns returns-2)

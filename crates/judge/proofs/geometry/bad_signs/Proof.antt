@@ -7,6 +7,4 @@ returns : tie.Need-returns
 returns c = cc
 
 pub bad-signs-spec : {M : Type 1} → statement M
-bad-signs-spec =
-    tie.close (tie.spec
-    (λ c κs. search needs) (λ c κs. search needs) (λ c κs. search needs) (λ c κs. search needs) returns)
+bad-signs-spec = tie.close (tie.spec (λ c κs. search needs) (λ c κs. search needs) (λ c κs. search needs) (λ c κs. search needs) returns)

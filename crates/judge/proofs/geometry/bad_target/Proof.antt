@@ -7,6 +7,4 @@ returns : tie.Need-returns
 returns c = cc
 
 pub bad-target-spec : {M : Type 1} → statement M
-bad-target-spec =
-    tie.close (tie.spec
-    (λ c κs. search needs) (λ c κs. search needs) (λ c κs. search needs) (λ c κs. search needs) returns)
+bad-target-spec = tie.close (tie.spec (λ c κs. search needs) (λ c κs. search needs) (λ c κs. search needs) (λ c κs. search needs) returns)
