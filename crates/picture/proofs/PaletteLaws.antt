@@ -30,23 +30,22 @@ pub no-colours : (table : List ℕ) → paletteOf table 0 ≡ black
 unfolding paletteOf tabulate
 no-colours table = refl
 
-module _ (l : List ℕ) (h : Header) (e : badHeader (length l) h ≡ false) where
-  abbrev room : tableStart h + 4 * entries h ≤ length l
-  room = table-room (length l) h e
+-- the rest of a list from a place on, as a slice of it is
+abbrev pub rest : List ℕ → (from : ℕ) → List ℕ
+rest l from = take (length l - from) (drop from l)
 
-  module _ (n from : ℕ) (c : from ≡ tableStart h) where
-    pub start-in : from ≤ length l
-    start-in = omega (arith, room)
+module _ (l : List ℕ) (from : ℕ) where
+  pub table-in : (n : ℕ) → from + 4 * n ≤ length l → n * 4 ≤ length (rest l from)
+  table-in n h = simp (length-take, length-drop) (omega arith)
 
-    abbrev rest : List ℕ
-    rest = take (length l - from) (drop from l)
+  pub rest-is : from ≤ length l → rest l from ≡ drop from l
+  rest-is h = take-all (length l - from) (drop from l) (simp length-drop (omega arith))
 
-    pub table-in : n ≤ entries h → n * 4 ≤ length rest
-    table-in q = simp (length-take, length-drop) (omega (arith, room))
+-- a header part's palette, from the rest of it behind the header
+module _ (l : List ℕ) (h : Header) (e : badHeader (length l) h ≡ false) (n from : ℕ) (c : from ≡ tableStart h) (q : n ≡ shownEntries h) where
+  pub entries-in : from + 4 * n ≤ length l
+  entries-in = omega (arith, table-room (length l) h e, shown-some h)
 
-    pub table-palette : n ≡ shownEntries h → paletteOf rest n ≡ headerPalette l h
-    unfolding headerPalette
-    table-palette q = ap₂ paletteOf (whole ∙ ap (λ (k : ℕ). drop k l) c) q
-      where
-        whole : rest ≡ drop from l
-        whole = take-all (length l - from) (drop from l) (simp length-drop (omega arith))
+  pub table-palette : paletteOf (rest l from) n ≡ headerPalette l h
+  unfolding headerPalette
+  table-palette = ap₂ paletteOf (rest-is l from (omega (arith, entries-in)) ∙ ap (λ (k : ℕ). drop k l) c) q

@@ -5,7 +5,8 @@ use mathlib.Core.Bool.{Bool, true, false, cond}
 use mathlib.Core.List.{List}
 use Prim.Native.Nat.{ℕ, _+_, _*_, _≤_, zero-le}
 use native.Mathlib.Omega.{arith}
-use lib.ListN.{length, drop}
+use lib.ListN.{length, drop, length-take, length-drop}
+use Rattle.words.specs.Bytes.{partOf}
 use Rattle.words.proofs.ChoiceLaws.{cond-true, cond-false}
 use Rattle.dib.specs.HeaderStatus.{badFields}
 use Rattle.dib.proofs.HeaderLaws.{passed-fields, entries-bound}
@@ -19,7 +20,7 @@ use Rattle.judge.specs.Check.{checkOf}
 use Rattle.judge.specs.Good.{Fit, Good}
 use Rattle.judge.proofs.AcceptedLaws.{accepted}
 use Rattle.picture.specs.Palette.{headerPalette}
-use Rattle.picture.proofs.PaletteLaws.{table-room, shown-some, no-colours}
+use Rattle.picture.proofs.PaletteLaws.{table-room, shown-some, no-colours, rest, rest-is}
 use Rattle.reading.specs.declared.Reading.{Reading}
 use Rattle.reading.specs.Reading.{
   Found, present, none, wanted, emptyReading, fullReading, foundIn, foundOf, readingOf, readingFrom, readPalette, paletteFrom, headerBytes, shownPalette, Within, IsReading,
@@ -59,21 +60,36 @@ reading-none s mask k e = record {
 
 -- ---- which it is, by what the code knows at each return
 
-module _ (s : List ℕ) (mask : Bool) (v : Checked) (e : v ≡ checkOf s) where
-  pub refused-none : (k : ℕ) → v ≡ Refused k → foundOf s mask ≡ none k
+module _ (s : List ℕ) (mask : Bool) (v : Checked) (e : v ≡ checkOf s) (d : Reading) where
+  pub answers-refused : (k : ℕ) → v ≡ Refused k → d ≡ emptyReading k → IsReading s mask d
   unfolding foundOf
-  refused-none k q = ap (foundIn mask) (sym e ∙ q)
+  answers-refused k q g = rw g (reading-none s mask k (ap (foundIn mask) (sym e ∙ q)))
 
   module _ (r : Record) (p : Picture) (q : v ≡ Accepted r) (w : p ≡ wanted mask r) where
-    pub read-fit : Fit (length s) p
+    read-fit : Fit (length s) p
     read-fit = subst (Fit (length s)) (sym w) (wanted-fit mask r (accepted s r (sym q ∙ e) .1))
 
     found-is : foundOf s mask ≡ cond (p .present) (present p) (none 0)
     unfolding foundOf
     found-is = ap (foundIn mask) (sym e ∙ q) ∙ sym (ap (λ (x : Picture). cond (x .present) (present x) (none 0)) w)
 
-    pub found-present : p .present ≡ true → foundOf s mask ≡ present p
-    found-present t = found-is ∙ cond-true _ _ _ t
+    pub answers-fields : p .present ≡ true → badFields (p .header) ≡ false
+    answers-fields t = picture-fields s mask p read-fit t
 
-    pub found-none : p .present ≡ false → foundOf s mask ≡ none 0
-    found-none t = found-is ∙ cond-false _ _ _ t
+    pub answers-present : p .present ≡ true → d ≡ fullReading p → IsReading s mask d
+    answers-present t g = rw g (reading-present s mask p read-fit t (found-is ∙ cond-true _ _ _ t))
+
+    pub answers-none : p .present ≡ false → d ≡ emptyReading 0 → IsReading s mask d
+    answers-none t g = rw g (reading-none s mask 0 (found-is ∙ cond-false _ _ _ t))
+
+-- ---- the palette, from the header part that was taken
+
+module _ (s : List ℕ) (r : Reading) (w : Within (length s) r) (header : List ℕ) (e : header ≡ partOf s (r .«header_at») (r .«header_len»)) where
+  pub entries-inside : r .«table_at» + 4 * r .colours ≤ length header
+  entries-inside = rw e (simp (length-take, length-drop) (omega (arith, w .header, w .table)))
+
+  pub palette-is : (d : List ℕ) → d ≡ paletteOf (rest header (r .«table_at»)) (r .colours) → d ≡ shownPalette s r
+  unfolding shownPalette headerBytes
+  palette-is d g =
+      let in-header : r .«table_at» ≤ length header = omega (arith, entries-inside) in
+      g ∙ ap (λ (l : List ℕ). paletteOf l (r .colours)) (rest-is header (r .«table_at») in-header ∙ ap (drop (r .«table_at»)) e)

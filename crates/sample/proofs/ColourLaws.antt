@@ -1,6 +1,5 @@
 -- Masks and channels: a mask that is not 0 has a one and a shift below the word's length, and a channel fits its width. Assumes nothing.
 use mathlib.Core.Path.{_≡_, refl}
-use mathlib.Core.Bool.{Bool, true, false, _&&_}
 use mathlib.Core.Logic.{_⊎_, inl, inr}
 use Prim.Native.Nat.{ℕ, zero, suc, _/_, _%_, _^_, _≤_, _<_, suc-le-suc}
 use native.Mathlib.Nat.{mod-lt, not-suc-le-zero, pow-suc, zero-lt-suc, eq-zero-or-pos}
@@ -39,8 +38,3 @@ shift-lt (suc m) h l = trailing-lt 32 (suc m) (zero-lt-suc m) l
 pub channel-lt : (w p n : ℕ) → channelAt w p n < 2 ^ w
 unfolding channelAt
 channel-lt w p n = mod-lt (n / 2 ^ p) (pow-pos w)
-
--- `masks` at 16 bits: no alpha, whatever the format
-pub and-by-first : (b : Bool) → (b && false) ≡ false
-and-by-first true = refl
-and-by-first false = refl

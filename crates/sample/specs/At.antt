@@ -7,12 +7,12 @@ use Rattle.pixel.specs.Place.{rowLength}
 use Rattle.dib.specs.declared.Header.{Header}
 use Rattle.dib.specs.Header.{topDown, rows}
 use Rattle.sample.specs.Stored.{stored, storedRow, rowBytes}
-use Rattle.sample.specs.Colour.{masksOf, shown}
+use Rattle.sample.specs.Colour.{masksIn, shown}
 
 -- the bits part's bytes, the header and the palette give the pixel; alpha format 1 makes the high byte of BI_RGB 32 an alpha
 unfoldable pub pixelAt : (bytes : List ℕ) → Header → (palette : List ℕ) (format1 : Bool) (column row : ℕ) → ℕ
 pixelAt bytes h palette format1 column row =
-    shown (h .bits) palette (masksOf (h .bits) (h .compression) (h .red) (h .green) (h .blue) (h .alpha) format1)
+    shown (h .bits) palette (masksIn h format1)
     (stored (h .bits) (rowBytes bytes (rowLength (h .width) (h .bits)) (storedRow (topDown h) (rows h) row)) column)
 
 -- a palette's entries are colours

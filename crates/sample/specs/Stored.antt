@@ -2,9 +2,8 @@
 use Prim.Native.Nat.{ℕ, _+_, _-_, _*_, _/_, _%_, _^_}
 use mathlib.Core.Bool.{Bool, cond}
 use mathlib.Core.List.{List}
-use lib.ListN.{take, drop}
 use lib.Dec.{eqb}
-use Rattle.words.specs.Bytes.{byteAt, le16, le24, le32}
+use Rattle.words.specs.Bytes.{byteAt, partOf, le16, le24, le32}
 
 -- "1 bit: the high bit is leftmost."
 unfoldable pub stored1 : (row : List ℕ) (column : ℕ) → ℕ
@@ -30,4 +29,4 @@ storedRow topDown rows row = cond topDown row (rows - 1 - row)
 
 -- the bytes of a stored row, each row of the picture being so long
 unfoldable pub rowBytes : (bytes : List ℕ) (rowLength row : ℕ) → List ℕ
-rowBytes bytes rowLength row = take rowLength (drop (row * rowLength) bytes)
+rowBytes bytes rowLength row = partOf bytes (row * rowLength) rowLength

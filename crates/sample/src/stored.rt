@@ -1,10 +1,8 @@
-// The number that a row's bytes hold for the pixel of a column.
+// A row's bytes, and the number that they hold for a pixel smaller than a byte.
 ghost use mathlib.Core.Path.{_≡_};
-ghost use Prim.Native.Nat.{_+_, _*_, _/_, _≤_, _<_};
-ghost use mathlib.Core.Bool.{true};
+ghost use Prim.Native.Nat.{_+_, _*_, _≤_, _<_};
 ghost use lib.ListN.{length};
-ghost use Rattle.pixel.specs.Place.{isDepth};
-ghost use Rattle.sample.specs.Stored.{stored1, stored4, stored, storedRow, rowBytes};
+ghost use Rattle.sample.specs.Stored.{stored1, stored4, storedRow, rowBytes};
 
 pub fn bit(row: &[u8], column: usize) -> u32
     requires { ⌜ column < length (now row) * 8 ⌝ }
@@ -27,35 +25,12 @@ pub fn half(row: &[u8], column: usize) -> u32
     }
 }
 
-// By the bits of a pixel; the row's bytes reach to the end of the column's pixel.
-pub fn number(bits: u32, row: &[u8], column: usize) -> u32
-    requires { ⌜ (isDepth bits ≡ true) × ((column + 1) * bits ≤ length (now row) * 8) ⌝ }
-    ensures { λ r. ⌜ r ≡ stored bits (now (row .entry)) column ⌝ }
-{
-    if bits == 1 {
-        return bit(row, column);
-    }
-    if bits == 4 {
-        return half(row, column);
-    }
-    if bits == 8 {
-        return words::wide(row[column]);
-    }
-    if bits == 16 {
-        return words::load_u16(row, column * 2);
-    }
-    if bits == 24 {
-        return words::load_u24(row, column * 3);
-    }
-    words::load_u32(row, column * 4)
-}
-
 // The stored row of the picture's row.
-pub fn row_at(descending: bool, rows: u32, row: u32) -> u32
+pub fn row_at(top_down: bool, rows: u32, row: u32) -> u32
     requires { ⌜ row < rows ⌝ }
-    ensures { λ r. ⌜ (r ≡ storedRow descending rows row) × (r < rows) ⌝ }
+    ensures { λ r. ⌜ (r ≡ storedRow «top_down» rows row) × (r < rows) ⌝ }
 {
-    if descending { row } else { rows - 1 - row }
+    if top_down { row } else { rows - 1 - row }
 }
 
 // The bytes of a stored row.

@@ -1,4 +1,4 @@
--- Each branch is the definition's.
+-- By the test: the mask, or the source.
 use mathlib.Core.Path.{sym}
 use Rattle.words.proofs.ChoiceLaws.{cond-true, cond-false}
 use Rattle.reading.proofs.wanted.Statement.{statement}

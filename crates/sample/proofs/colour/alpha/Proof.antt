@@ -1,5 +1,6 @@
+-- A mask that is not 0 has a one, so its channel can be read.
 use native.Mathlib.Omega.{arith}
-use borrow.Author.Tests.{eq-eqb, ne-eqb}
+use borrow.Author.Tests.{ne-eqb}
 use Rattle.sample.specs.Colour.{alphaOf}
 use Rattle.sample.proofs.ColourLaws.{width-pos}
 use Rattle.sample.proofs.colour.alpha.Statement.{statement}
@@ -7,12 +8,12 @@ use Rattle.sample.proofs.colour.alpha.Tie as tie
 
 returns : tie.Need-returns
 unfolding alphaOf
-returns c = simp (eq-eqb _ _ (c .if1 .taken))
+returns c = rw (c .if1 .taken)
 
 channel8-requires : tie.Need-channel8-requires
 channel8-requires c κs =
     let a = c .before in
-    (width-pos (a .args .mask) (omega arith) (a .fits .mask .fits), a .pre .0, a .pre .1)
+    (record { some = width-pos (a .args .mask) (omega arith) (a .fits .mask .fits); most = a .pre .0 }, a .pre .1)
 
 returns-2 : tie.Need-returns-2
 unfolding alphaOf

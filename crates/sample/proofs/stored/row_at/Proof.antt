@@ -1,14 +1,9 @@
+-- Each branch is the definition's choice.
 use native.Mathlib.Omega.{arith}
 use Rattle.sample.specs.Stored.{storedRow}
 use borrow.Author.Needs.{needs}
 use Rattle.sample.proofs.stored.row_at.Statement.{statement}
 use Rattle.sample.proofs.stored.row_at.Tie as tie
-
-sub-result : tie.Need-sub-result
-sub-result c = search needs
-
-sub-result-2 : tie.Need-sub-result-2
-sub-result-2 c = search needs
 
 returns : tie.Need-returns
 unfolding storedRow
@@ -19,4 +14,4 @@ unfolding storedRow
 returns-2 c = (rw (c .if1 .left), omega arith)
 
 pub row-at-spec : {M : Type 1} → statement M
-row-at-spec = tie.close (tie.spec sub-result sub-result-2 returns returns-2)
+row-at-spec = tie.close (tie.spec (λ c. search needs) (λ c. search needs) returns returns-2)
