@@ -12,5 +12,5 @@ asksMask mask = not (eqb mask 0)
 -- all but the status, in the header's order
 abbrev pub numbersIn : Reading → List ℕ
 numbersIn r =
-    r .«header_at» ∷ r .«header_len» ∷ r .«view_at» ∷ r .«view_len» ∷ r .width ∷ r .rows ∷ r .bits ∷ r .compression ∷ cond (r .«top_down») 1 0
-    ∷ r .red ∷ r .green ∷ r .blue ∷ r .alpha ∷ []
+    r .«header_at» ∷ r .«header_len» ∷ r .«view_at» ∷ r .«view_len» ∷ r .width ∷ r .rows ∷ r .layout .bits ∷ r .layout .compression
+    ∷ cond (r .layout .«top_down») 1 0 ∷ r .layout .masks .red ∷ r .layout .masks .green ∷ r .layout .masks .blue ∷ r .layout .masks .alpha ∷ []

@@ -66,6 +66,7 @@ pub extern "C" fn lacrumont_read(s: &[u8], mask: u32, out: &mut [u64; 13]) -> u3
     ensures { λ r. ⌜ (r ≡ readingOf (now (s .entry)) (asksMask mask) .status) × (now (out .exit) ≡ numbersIn (readingOf (now (s .entry)) (asksMask mask))) ⌝ }
 {
     let a = reading::read(s, mask != 0);
+    let l = a.layout;
     *out = [
         a.header_at as u64,
         a.header_len as u64,
@@ -73,13 +74,13 @@ pub extern "C" fn lacrumont_read(s: &[u8], mask: u32, out: &mut [u64; 13]) -> u3
         a.view_len as u64,
         a.width as u64,
         a.rows as u64,
-        a.bits as u64,
-        a.compression as u64,
-        words::flag(a.top_down),
-        a.red as u64,
-        a.green as u64,
-        a.blue as u64,
-        a.alpha as u64,
+        l.bits as u64,
+        l.compression as u64,
+        words::flag(l.top_down),
+        l.masks.red as u64,
+        l.masks.green as u64,
+        l.masks.blue as u64,
+        l.masks.alpha as u64,
     ];
     a.status
 }
@@ -89,5 +90,6 @@ pub extern "C" fn lacrumont_read(s: &[u8], mask: u32, out: &mut [u64; 13]) -> u3
 pub extern "C" fn lacrumont_palette(s: &[u8], mask: u32, out: &mut [u32; 256])
     ensures { λ _. ⌜ now (out .exit) ≡ readPalette (now (s .entry)) (asksMask mask) ⌝ }
 {
-    *out = reading::palette(s, mask != 0);
+    let a = reading::read(s, mask != 0);
+    *out = reading::palette(s, a);
 }

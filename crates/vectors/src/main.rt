@@ -21,6 +21,7 @@ fn main() {
     plays::refused();
     plays::blends();
     plays::masked();
+    plays::copied();
     plays::stretches();
     records::all();
 }
