@@ -27,7 +27,7 @@ use Rattle.paint.specs.declared.Rule.{Rule}
 use Rattle.paint.specs.Paints.{paintedBy, rowPaint}
 use Rattle.meaning.specs.Sampling.{sourceColumn, sourceShown, sourcePixel, maskShown, maskBit}
 use Rattle.meaning.specs.Meaning.{ruleOf, meaningIn, paintOn}
-use Rattle.meaning.specs.Reading.{InPicture}
+use Rattle.meaning.specs.Rows.{InPicture}
 use Rattle.meaning.proofs.FitLaws.{source-fits, column-inside}
 use Rattle.meaning.proofs.RowLaws.{fields-ok}
 use Rattle.draw.specs.Ready.{Mapped}

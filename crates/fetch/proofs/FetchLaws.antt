@@ -1,73 +1,124 @@
--- The pixel of a column, by the layout, as the loops compute it. Assumes nothing.
-use mathlib.Core.Path.{_≡_, sym, ap, _∙_, subst}
-use mathlib.Core.List.{List}
-use Prim.Native.Nat.{ℕ, _+_, _*_, _^_, _≤_, _<_}
+-- The loops over a row's columns, by one law for every layout, and a row whose depth and masks are known. Assumes nothing.
+use mathlib.Core.Path.{_≡_, refl, sym, _∙_}
+use mathlib.Core.Bool.{Bool, true, false}
+use mathlib.Core.List.{List, []}
+use mathlib.Core.Logic.{_≢_}
+use Prim.Native.Nat.{ℕ, _+_, _*_, _≤_, _<_}
 use native.Mathlib.Omega.{arith}
+use lib.Dec.{eqb, leb, lit<}
 use lib.ListN.{length, getD, set}
-use Rattle.words.specs.Bytes.{byteAt, le16, le24, le32}
+use borrow.Author.Tests.{eqb-true}
 use Rattle.words.specs.Filled.{Filled}
-use Rattle.words.proofs.FillLaws.{filled-none, filled-more}
-use Rattle.sample.specs.declared.Masks.{Masks}
-use Rattle.sample.specs.Stored.{stored1, stored4, stored}
-use Rattle.sample.specs.Colour.{masked, shown}
-use Rattle.fetch.specs.Fetched.{fetched, InLine}
+use Rattle.words.proofs.ChoiceLaws.{and-both}
+use Rattle.words.proofs.FillLaws.{filled-none, filled-more, filled-to}
+use Rattle.pixel.specs.Place.{isDepth}
+use Rattle.pixel.proofs.PlaceLaws.{on-depth}
+use Rattle.dib.specs.declared.Masks.{Masks}
+use Rattle.sample.specs.Stored.{stored}
+use Rattle.sample.specs.Colour.{Sampled, shown}
+use Rattle.fetch.specs.Fetched.{fetched, Fetches, InRow, Readable, byteMasks, noMasks, sameMasks}
 
--- the loop over the columns: the first i are fetched
+-- ---- the loop
+
+-- the first i columns are fetched
 pub record Fetching (bits : ℕ) (palette : List ℕ) (m : Masks) (line columns out₀ : List ℕ) (i : ℕ) (out : List ℕ) : Type 0 where
   pub below : i ≤ length columns
+  pub room : length columns ≤ length out
   pub filled : Filled (fetched bits palette m line columns) out₀ i out
 
 module _ (bits : ℕ) (palette : List ℕ) (m : Masks) (line columns out₀ : List ℕ) where
-  pub fetch-begins : Fetching bits palette m line columns out₀ 0 out₀
-  fetch-begins = record { below = omega arith; filled = filled-none _ out₀ }
+  pub fetch-begins : InRow bits line columns out₀ → Fetching bits palette m line columns out₀ 0 out₀
+  fetch-begins r = record { below = omega arith; room = r .long; filled = filled-none _ out₀ }
 
-  pub fetch-turns : (out : List ℕ) (i v : ℕ) → Fetching bits palette m line columns out₀ i out → i < length columns → i < length out
-      → v ≡ fetched bits palette m line columns i → Fetching bits palette m line columns out₀ (i + 1) (set out i v)
-  fetch-turns out i v f h l e = record { below = omega arith; filled = filled-more _ out₀ i out v l (f .filled) e }
+  module _ (i : ℕ) (out : List ℕ) (f : Fetching bits palette m line columns out₀ i out) where
+    -- the pixel v of the number n that is stored at the column
+    pub fetch-turns : (column n v : ℕ) → i < length columns → column ≡ getD columns i 0 → n ≡ stored bits line column → v ≡ shown bits palette m n
+        → Fetching bits palette m line columns out₀ (i + 1) (set out i v)
+    unfolding fetched
+    fetch-turns column n v h a b e =
+        let q = filled-more _ out₀ i out v (omega (arith, f .room)) (f .filled) (cc) in
+        record { below = omega arith; room = omega (arith, f .room, f .filled .long, q .long); filled = q }
 
--- a palette's colour, with alpha 255
-module _ (palette : List ℕ) (m : Masks) (line columns : List ℕ) (k n r : ℕ) (e : r ≡ 255 * 2 ^ 24 + getD palette n 0) where
-  coloured : (q : ℕ) → n ≡ q → r ≡ 255 * 2 ^ 24 + getD palette q 0
-  coloured q h = e ∙ ap (λ (x : ℕ). 255 * 2 ^ 24 + getD palette x 0) h
+    pub fetch-ends : length columns ≤ i → Fetches bits palette m line columns out₀ out
+    fetch-ends h = filled-to (omega (arith, f .below)) (f .filled)
 
-  pub fetched-1 : n ≡ stored1 line (getD columns k 0) → r ≡ fetched 1 palette m line columns k
-  unfolding fetched shown stored
-  fetched-1 h = coloured _ h
+-- a column's pixel lies in the row's bytes
+module _ (line columns out : List ℕ) (i column : ℕ) (h : i < length columns) (e : column ≡ getD columns i 0) where
+  pub in-1 : InRow 1 line columns out → column < length line * 8
+  in-1 r = omega (arith, r .reach i h)
 
-  pub fetched-4 : n ≡ stored4 line (getD columns k 0) → r ≡ fetched 4 palette m line columns k
-  unfolding fetched shown stored
-  fetched-4 h = coloured _ h
+  pub in-4 : InRow 4 line columns out → column < length line * 2
+  in-4 r = omega (arith, r .reach i h)
 
-  pub fetched-8 : n ≡ byteAt line (getD columns k 0) → r ≡ fetched 8 palette m line columns k
-  unfolding fetched shown stored
-  fetched-8 h = coloured _ h
+  pub in-8 : InRow 8 line columns out → column < length line
+  in-8 r = omega (arith, r .reach i h)
 
--- by masks
-module _ (palette : List ℕ) (m : Masks) (line columns : List ℕ) (k n r : ℕ) (e : r ≡ masked m n) where
-  pub fetched-16 : n ≡ le16 line (getD columns k 0 * 2) → r ≡ fetched 16 palette m line columns k
-  unfolding fetched shown stored
-  fetched-16 h = e ∙ ap (masked m) h
+  pub in-16 : InRow 16 line columns out → column * 2 + 2 ≤ length line
+  in-16 r = omega (arith, r .reach i h)
 
-  pub fetched-24 : n ≡ le24 line (getD columns k 0 * 3) → r ≡ fetched 24 palette m line columns k
-  unfolding fetched shown stored
-  fetched-24 h = e ∙ ap (masked m) h
+  pub in-24 : InRow 24 line columns out → column * 3 + 3 ≤ length line
+  in-24 r = omega (arith, r .reach i h)
 
-  pub fetched-32 : n ≡ le32 line (getD columns k 0 * 4) → r ≡ fetched 32 palette m line columns k
-  unfolding fetched shown stored
-  fetched-32 h = e ∙ ap (masked m) h
+  pub in-32 : InRow 32 line columns out → column * 4 + 4 ≤ length line
+  in-32 r = omega (arith, r .reach i h)
 
--- a depth that is known
-module _ (b bits : ℕ) (palette : List ℕ) (m : Masks) (line columns : List ℕ) (e : bits ≡ b) where
-  pub as-depth : (out₀ out : List ℕ) (i : ℕ) → Filled (fetched b palette m line columns) out₀ i out → Filled (fetched bits palette m line columns) out₀ i out
-  as-depth out₀ out i f = subst (λ (n : ℕ). Filled (fetched n palette m line columns) out₀ i out) (sym e) f
+pub ruleset fetching = (fetch-begins, fetch-ends, in-1, in-4, in-8, in-16, in-24, in-32, arith)
 
-  pub in-line : InLine bits line columns → InLine b line columns
-  in-line h = subst (λ (n : ℕ). InLine n line columns) e h
+-- ---- a depth that is known
 
--- masks that are known
-pub masks-ext : (m k : Masks) → m .red ≡ k .red → m .green ≡ k .green → m .blue ≡ k .blue → m .alpha ≡ k .alpha → m ≡ k
-masks-ext m k r g b a = λ i. record { red = r i; green = g i; blue = b i; alpha = a i }
+-- what is left when the code has passed the other depths
+pub last-depth : (b : ℕ) → isDepth b ≡ true → b ≢ 1 → b ≢ 4 → b ≢ 8 → b ≢ 16 → b ≢ 24 → b ≡ 32
+last-depth b h n1 n4 n8 n16 n24 =
+    on-depth (λ (d : ℕ). b ≡ d → b ≡ 32) (λ e. absurd (n1 e)) (λ e. absurd (n4 e)) (λ e. absurd (n8 e)) (λ e. absurd (n16 e))
+    (λ e. absurd (n24 e)) (λ e. e) b h refl
 
-pub as-masks : (bits : ℕ) (palette line columns out₀ out : List ℕ) (i : ℕ) {m k : Masks} → m ≡ k
-    → Filled (fetched bits palette k line columns) out₀ i out → Filled (fetched bits palette m line columns) out₀ i out
-as-masks bits palette line columns out₀ out i e f = subst (λ (x : Masks). Filled (fetched bits palette x line columns) out₀ i out) (sym e) f
+-- one rule for another that agrees with it
+pub filled-by : (f g : ℕ → ℕ) (n : ℕ) (d₀ d : List ℕ) → ((k : ℕ) → k < n → f k ≡ g k) → Filled f d₀ n d → Filled g d₀ n d
+filled-by f g n d₀ d e p = record { long = p .long; front = λ k h. p .front k h ∙ e k h; back = p .back }
+
+module _ (bits b : ℕ) (e : bits ≡ b) where
+  pub in-row : (line columns out : List ℕ) → InRow bits line columns out → InRow b line columns out
+  in-row line columns out r = rw e at r
+
+  pub masks-at : (m : Masks) → Readable bits m → 8 < b → Sampled m
+  masks-at m r h = r .sampled (omega arith)
+
+  module _ (palette : List ℕ) (m : Masks) (line columns : List ℕ) where
+    no-masks : leb b 8 ≡ true → (k : ℕ) → fetched b palette noMasks line columns k ≡ fetched bits palette m line columns k
+    unfolding fetched shown
+    no-masks t k = rw (e, t)
+
+    no-palette : leb b 8 ≡ false → (k : ℕ) → fetched b [] m line columns k ≡ fetched bits palette m line columns k
+    unfolding fetched shown
+    no-palette t k = rw (e, t)
+
+    module _ (before after : List ℕ) where
+      pub by-palette : leb b 8 ≡ true → Fetches b palette noMasks line columns before after → Fetches bits palette m line columns before after
+      by-palette t f = filled-by _ _ _ _ _ (λ k _. no-masks t k) f
+
+      pub by-masks : leb b 8 ≡ false → Fetches b [] m line columns before after → Fetches bits palette m line columns before after
+      by-masks t f = filled-by _ _ _ _ _ (λ k _. no-palette t k) f
+
+-- at 24 bits the masks are known
+pub by-bytes : (bits : ℕ) (palette : List ℕ) (m : Masks) (line columns before after : List ℕ) → Readable bits m → bits ≡ 24
+    → Fetches 24 [] (byteMasks 0) line columns before after → Fetches bits palette m line columns before after
+by-bytes bits palette m line columns before after r e f = by-masks bits 24 e palette m line columns before after refl (rw (r .bytes e) f)
+
+pub ruleset depths = (in-row, masks-at, by-palette, by-masks, by-bytes, last-depth, lit<)
+
+-- ---- masks that were compared
+
+pub same-masks : (m k : Masks) → sameMasks m k ≡ true → m ≡ k
+same-masks m k e =
+    let a = and-both _ (eqb (m .alpha) (k .alpha)) e in
+    let b = and-both _ (eqb (m .blue) (k .blue)) (a .0) in
+    let g = and-both (eqb (m .red) (k .red)) (eqb (m .green) (k .green)) (b .0) in
+    let red = eqb-true (m .red) (k .red) (g .0) in
+    let green = eqb-true (m .green) (k .green) (g .1) in
+    let blue = eqb-true (m .blue) (k .blue) (b .1) in
+    let alpha = eqb-true (m .alpha) (k .alpha) (a .1) in
+    λ i. record { red = red i; green = green i; blue = blue i; alpha = alpha i }
+
+pub by-same : (bits : ℕ) (palette line columns before after : List ℕ) (m k l : Masks) (r : Bool) → r ≡ sameMasks m k → r ≡ true → k ≡ l
+    → Fetches bits palette l line columns before after → Fetches bits palette m line columns before after
+by-same bits palette line columns before after m k l r s t e f = rw (same-masks m k (sym s ∙ t), e) f

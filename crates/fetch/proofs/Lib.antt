@@ -1,2 +1,3 @@
 pub mod CommonLaws
 pub mod FetchLaws
+pub mod ReadableLaws

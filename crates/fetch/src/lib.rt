@@ -1,16 +1,14 @@
 // A row of source pixels, fetched once a row: one loop for each depth and common layout, so that none is asked for at a pixel.
 ghost use mathlib.Core.Path.{_≡_};
-ghost use Prim.Native.Nat.{_+_, _*_, _^_, _≤_, _<_};
+ghost use mathlib.Core.List.{[]};
+ghost use Prim.Native.Nat.{_+_, _*_, _^_, _<_};
 ghost use lib.ListN.{length, getD};
 ghost use Rattle.words.specs.Filled.{Filled};
-ghost use mathlib.Core.Bool.{true};
-ghost use Rattle.pixel.specs.Place.{isDepth};
 ghost use Rattle.pixel.specs.Widen.{Widens};
 ghost use Rattle.sample.specs.At.{Colours};
 ghost use Rattle.sample.specs.Colour.{Sampled};
-ghost use Rattle.fetch.specs.Fetched.{fetched, InLine, noMasks};
-ghost use mathlib.Core.List.{[]};
-use sample::Masks;
+ghost use Rattle.fetch.specs.Fetched.{fetched, Fetches, InRow, Readable, Tables, noMasks, sameMasks};
+use dib::Masks;
 
 mod common;
 
@@ -24,9 +22,11 @@ pub fn row(
     columns: &[u32],
     out: &mut [u32],
 )
-    requires { ⌜ (isDepth bits ≡ true) × (length (now columns) ≤ length (now out)) × InLine bits (now line) (now columns) ⌝ }
-    requires { ⌜ Widens (now t) × Colours (now palette) × (8 < bits → Sampled m) ⌝ }
-    ensures { λ _. ⌜ Filled (fetched bits (now (palette .entry)) m (now (line .entry)) (now (columns .entry))) (now (out .entry)) (length (now (columns .entry))) (now (out .exit)) ⌝ }
+    requires { ⌜ Readable bits m ⌝ }
+    requires { ⌜ InRow bits (now line) (now columns) (now out) ⌝ }
+    requires { ⌜ Tables (now t) (now palette) ⌝ }
+    ensures { λ _. ⌜ Filled (fetched bits (now (palette .entry)) m (now (line .entry)) (now (columns .entry)))
+        (now (out .entry)) (length (now (columns .entry))) (now (out .exit)) ⌝ }
 {
     if bits == 1 {
         one_bit(palette, line, columns, out);
@@ -45,7 +45,7 @@ pub fn row(
         return;
     }
     if bits == 24 {
-        row24(t, m, line, columns, out);
+        common::opaque24(line, columns, out);
         return;
     }
     row32(t, m, line, columns, out);
@@ -53,13 +53,13 @@ pub fn row(
 
 // 1 bit.
 fn one_bit(palette: &[u32; 256], line: &[u8], columns: &[u32], out: &mut [u32])
-    requires { ⌜ (length (now columns) ≤ length (now out)) × InLine 1 (now line) (now columns) ⌝ }
+    requires { ⌜ InRow 1 (now line) (now columns) (now out) ⌝ }
     requires { ⌜ Colours (now palette) ⌝ }
-    ensures { λ _. ⌜ Filled (fetched 1 (now (palette .entry)) noMasks (now (line .entry)) (now (columns .entry))) (now (out .entry)) (length (now (columns .entry))) (now (out .exit)) ⌝ }
+    ensures { λ _. ⌜ Fetches 1 (now (palette .entry)) noMasks (now (line .entry)) (now (columns .entry)) (now (out .entry)) (now (out .exit)) ⌝ }
 {
     let mut i = 0;
     while i < columns.len() {
-        let column = columns[i] as usize;
+        let column = column_at(columns, i);
         out[i] = opaque(palette, sample::stored::bit(line, column));
         i += 1;
     }
@@ -67,13 +67,13 @@ fn one_bit(palette: &[u32; 256], line: &[u8], columns: &[u32], out: &mut [u32])
 
 // 4 bits.
 fn four_bits(palette: &[u32; 256], line: &[u8], columns: &[u32], out: &mut [u32])
-    requires { ⌜ (length (now columns) ≤ length (now out)) × InLine 4 (now line) (now columns) ⌝ }
+    requires { ⌜ InRow 4 (now line) (now columns) (now out) ⌝ }
     requires { ⌜ Colours (now palette) ⌝ }
-    ensures { λ _. ⌜ Filled (fetched 4 (now (palette .entry)) noMasks (now (line .entry)) (now (columns .entry))) (now (out .entry)) (length (now (columns .entry))) (now (out .exit)) ⌝ }
+    ensures { λ _. ⌜ Fetches 4 (now (palette .entry)) noMasks (now (line .entry)) (now (columns .entry)) (now (out .entry)) (now (out .exit)) ⌝ }
 {
     let mut i = 0;
     while i < columns.len() {
-        let column = columns[i] as usize;
+        let column = column_at(columns, i);
         out[i] = opaque(palette, sample::stored::half(line, column));
         i += 1;
     }
@@ -81,13 +81,13 @@ fn four_bits(palette: &[u32; 256], line: &[u8], columns: &[u32], out: &mut [u32]
 
 // 8 bits.
 fn eight_bits(palette: &[u32; 256], line: &[u8], columns: &[u32], out: &mut [u32])
-    requires { ⌜ (length (now columns) ≤ length (now out)) × InLine 8 (now line) (now columns) ⌝ }
+    requires { ⌜ InRow 8 (now line) (now columns) (now out) ⌝ }
     requires { ⌜ Colours (now palette) ⌝ }
-    ensures { λ _. ⌜ Filled (fetched 8 (now (palette .entry)) noMasks (now (line .entry)) (now (columns .entry))) (now (out .entry)) (length (now (columns .entry))) (now (out .exit)) ⌝ }
+    ensures { λ _. ⌜ Fetches 8 (now (palette .entry)) noMasks (now (line .entry)) (now (columns .entry)) (now (out .entry)) (now (out .exit)) ⌝ }
 {
     let mut i = 0;
     while i < columns.len() {
-        let column = columns[i] as usize;
+        let column = column_at(columns, i);
         out[i] = opaque(palette, words::wide(line[column]));
         i += 1;
     }
@@ -95,50 +95,25 @@ fn eight_bits(palette: &[u32; 256], line: &[u8], columns: &[u32], out: &mut [u32
 
 // 16 bits, by any masks.
 fn masked16(t: &[u8; 510], m: Masks, line: &[u8], columns: &[u32], out: &mut [u32])
-    requires { ⌜ (length (now columns) ≤ length (now out)) × InLine 16 (now line) (now columns) ⌝ }
-    requires { ⌜ Widens (now t) × Sampled m ⌝ }
-    ensures { λ _. ⌜ Filled (fetched 16 [] m (now (line .entry)) (now (columns .entry))) (now (out .entry)) (length (now (columns .entry))) (now (out .exit)) ⌝ }
+    requires { ⌜ InRow 16 (now line) (now columns) (now out) ⌝ }
+    requires { ⌜ Sampled m ⌝ }
+    requires { ⌜ Widens (now t) ⌝ }
+    ensures { λ _. ⌜ Fetches 16 [] m (now (line .entry)) (now (columns .entry)) (now (out .entry)) (now (out .exit)) ⌝ }
 {
     let mut i = 0;
     while i < columns.len() {
-        let column = columns[i] as usize;
+        let column = column_at(columns, i);
         out[i] = sample::colour::masked(t, m, words::load_u16(line, column * 2));
-        i += 1;
-    }
-}
-
-// 24 bits: the masks choose the loop.
-fn row24(t: &[u8; 510], m: Masks, line: &[u8], columns: &[u32], out: &mut [u32])
-    requires { ⌜ (length (now columns) ≤ length (now out)) × InLine 24 (now line) (now columns) ⌝ }
-    requires { ⌜ Widens (now t) × Sampled m ⌝ }
-    ensures { λ _. ⌜ Filled (fetched 24 [] m (now (line .entry)) (now (columns .entry))) (now (out .entry)) (length (now (columns .entry))) (now (out .exit)) ⌝ }
-{
-    if same(m, common::bytes(0)) {
-        common::opaque24(line, columns, out);
-        return;
-    }
-    masked24(t, m, line, columns, out);
-}
-
-// 24 bits, by any masks.
-fn masked24(t: &[u8; 510], m: Masks, line: &[u8], columns: &[u32], out: &mut [u32])
-    requires { ⌜ (length (now columns) ≤ length (now out)) × InLine 24 (now line) (now columns) ⌝ }
-    requires { ⌜ Widens (now t) × Sampled m ⌝ }
-    ensures { λ _. ⌜ Filled (fetched 24 [] m (now (line .entry)) (now (columns .entry))) (now (out .entry)) (length (now (columns .entry))) (now (out .exit)) ⌝ }
-{
-    let mut i = 0;
-    while i < columns.len() {
-        let column = columns[i] as usize;
-        out[i] = sample::colour::masked(t, m, words::load_u24(line, column * 3));
         i += 1;
     }
 }
 
 // 32 bits: the masks choose the loop.
 fn row32(t: &[u8; 510], m: Masks, line: &[u8], columns: &[u32], out: &mut [u32])
-    requires { ⌜ (length (now columns) ≤ length (now out)) × InLine 32 (now line) (now columns) ⌝ }
-    requires { ⌜ Widens (now t) × Sampled m ⌝ }
-    ensures { λ _. ⌜ Filled (fetched 32 [] m (now (line .entry)) (now (columns .entry))) (now (out .entry)) (length (now (columns .entry))) (now (out .exit)) ⌝ }
+    requires { ⌜ InRow 32 (now line) (now columns) (now out) ⌝ }
+    requires { ⌜ Sampled m ⌝ }
+    requires { ⌜ Widens (now t) ⌝ }
+    ensures { λ _. ⌜ Fetches 32 [] m (now (line .entry)) (now (columns .entry)) (now (out .entry)) (now (out .exit)) ⌝ }
 {
     if same(m, common::bytes(0)) {
         common::opaque32(line, columns, out);
@@ -153,16 +128,25 @@ fn row32(t: &[u8; 510], m: Masks, line: &[u8], columns: &[u32], out: &mut [u32])
 
 // 32 bits, by any masks.
 fn masked32(t: &[u8; 510], m: Masks, line: &[u8], columns: &[u32], out: &mut [u32])
-    requires { ⌜ (length (now columns) ≤ length (now out)) × InLine 32 (now line) (now columns) ⌝ }
-    requires { ⌜ Widens (now t) × Sampled m ⌝ }
-    ensures { λ _. ⌜ Filled (fetched 32 [] m (now (line .entry)) (now (columns .entry))) (now (out .entry)) (length (now (columns .entry))) (now (out .exit)) ⌝ }
+    requires { ⌜ InRow 32 (now line) (now columns) (now out) ⌝ }
+    requires { ⌜ Sampled m ⌝ }
+    requires { ⌜ Widens (now t) ⌝ }
+    ensures { λ _. ⌜ Fetches 32 [] m (now (line .entry)) (now (columns .entry)) (now (out .entry)) (now (out .exit)) ⌝ }
 {
     let mut i = 0;
     while i < columns.len() {
-        let column = columns[i] as usize;
+        let column = column_at(columns, i);
         out[i] = sample::colour::masked(t, m, words::load_u32(line, column * 4));
         i += 1;
     }
+}
+
+// The source column of target column i.
+fn column_at(columns: &[u32], i: usize) -> usize
+    requires { ⌜ i < length (now columns) ⌝ }
+    ensures { λ r. ⌜ (r ≡ getD (now (columns .entry)) i 0) × (r < 2 ^ 32) ⌝ }
+{
+    columns[i] as usize
 }
 
 // A palette's colour with alpha 255.
@@ -175,14 +159,7 @@ fn opaque(palette: &[u32; 256], n: u32) -> u32
 
 // Are the masks the same?
 fn same(m: Masks, k: Masks) -> bool
-    ensures { λ r. ⌜ (r ≡ true → m ≡ k) ⌝ }
+    ensures { λ r. ⌜ r ≡ sameMasks m k ⌝ }
 {
-    if m.red == k.red {
-        if m.green == k.green {
-            if m.blue == k.blue {
-                return m.alpha == k.alpha;
-            }
-        }
-    }
-    false
+    (m.red == k.red) & (m.green == k.green) & (m.blue == k.blue) & (m.alpha == k.alpha)
 }

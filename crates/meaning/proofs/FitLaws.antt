@@ -61,3 +61,11 @@ pub column-inside : (x cxSrc cx i n : ℕ) → i < magnitude32 cx → 1 ≤ magn
     → sourceColumn x cxSrc cx i < n
 unfolding sourceColumn
 column-inside x cxSrc cx i n h l p = omega (arith, place-lt (mirrored cx cxSrc) i (magnitude32 cxSrc) (magnitude32 cx) h l)
+
+-- so does the row that a row of the target reads
+pub row-inside : {len : ℕ} (r : Record) → Good len r → r .source .present ≡ true → (j row : ℕ) → j < magnitude32 (r .cy)
+    → row ≡ sourceColumn (r .source .y) (r .«cy_src») (r .cy) j → row < rows (r .source .header)
+row-inside r g there j row h e =
+    let fits = source-fits r g there in
+    let l = column-inside (r .source .y) (r .«cy_src») (r .cy) j (rows (r .source .header)) h (fits .cy .0) (fits .lines .1) in
+    omega (arith, l, e)

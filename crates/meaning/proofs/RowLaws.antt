@@ -16,20 +16,21 @@ use Rattle.dib.specs.declared.Header.{Header}
 use Rattle.dib.specs.Header.{topDown, rows}
 use Rattle.dib.specs.HeaderStatus.{badFields}
 use Rattle.dib.proofs.HeaderLaws.{sound, passed-fields, depth-bounds}
-use Rattle.sample.specs.declared.Masks.{Masks}
+use Rattle.dib.specs.declared.Masks.{Masks}
 use Rattle.sample.specs.Stored.{stored1, stored, storedRow}
-use Rattle.sample.specs.Colour.{shown}
+use Rattle.sample.specs.Colour.{masksIn, shown}
 use Rattle.sample.specs.At.{pixelAt}
 use Rattle.sample.proofs.AtLaws.{column-in}
 use Rattle.judge.specs.declared.Picture.{Picture}
 use Rattle.judge.specs.declared.Record.{Record}
 use Rattle.judge.specs.Record.{bitsPart}
-use Rattle.judge.specs.Good.{Fit}
+use Rattle.judge.specs.Good.{Fit, Good}
 use Rattle.picture.specs.Palette.{picturePalette, pictureRow}
 use Rattle.picture.proofs.RowLaws.{length-bits}
-use Rattle.fetch.specs.Fetched.{fetched, InLine}
+use Rattle.fetch.specs.Fetched.{fetched, InLine, Readable}
+use Rattle.fetch.proofs.ReadableLaws.{readable}
 use Rattle.meaning.specs.Sampling.{isFormat1, sourceColumn, sourceShown, maskShown}
-use Rattle.meaning.specs.Reading.{masksIn, InPicture}
+use Rattle.meaning.specs.Rows.{InPicture}
 
 -- one rule for another that agrees with it
 pub filled-by : (f g : ℕ → ℕ) (n : ℕ) (d₀ d : List ℕ) → ((k : ℕ) → k < n → f k ≡ g k) → Filled f d₀ n d → Filled g d₀ n d
@@ -39,6 +40,13 @@ filled-by f g n d₀ d e p = record { long = p .long; front = λ k h. p .front k
 
 pub fields-ok : {len : ℕ} (p : Picture) → Fit len p → p .present ≡ true → badFields (p .header) ≡ false
 fields-ok p f t = passed-fields _ (p .header) (f .sound t .header-ok)
+
+-- its pixels can be read with the masks in force
+pub as-readable : {len : ℕ} (r : Record) (m : Masks) → Good len r → r .source .present ≡ true → m ≡ masksIn (r .source .header) (isFormat1 (r .action))
+    → Readable (r .source .header .bits) m
+as-readable r m g there e =
+    let fields = fields-ok (r .source) (g .source) there in
+    rw e (readable (r .source .header) (isFormat1 (r .action)) fields (g .source .sound there .masks-ok))
 
 stored-lt : (t : Bool) (n row : ℕ) → row < n → storedRow t n row < n
 unfolding storedRow

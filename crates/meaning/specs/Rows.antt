@@ -20,7 +20,7 @@ pub record SourceRow (s : List ℕ) (r : Record) (m : Masks) (table palette colu
   pub good : Good (length s) r
   pub masks : m ≡ masksIn (r .source .header) (isFormat1 (r .action))
   pub tables : Tables table palette
-  pub palette : palette ≡ picturePalette s (r .source)
+  pub shows : palette ≡ picturePalette s (r .source)
   pub inside : r .source .present ≡ true → InPicture (r .source .header .width) columns
 
 pub record MaskRow (s : List ℕ) (r : Record) (columns : List ℕ) : Type 0 where

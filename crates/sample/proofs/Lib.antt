@@ -1,4 +1,3 @@
 pub mod ColourLaws
-pub mod StoredLaws
 pub mod PaletteLaws
 pub mod AtLaws

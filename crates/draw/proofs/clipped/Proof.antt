@@ -1,6 +1,6 @@
 use Rattle.draw.proofs.TargetLaws.{none-drawn, none-saved, target-lies, mapped}
 use Rattle.meaning.proofs.FitLaws.{extents}
-use Rattle.meaning.specs.Reading.{masksIn}
+use Rattle.sample.specs.Colour.{masksIn}
 use denote.Ref.{now}
 use lib.Seq.{length-take-le}
 use lib.ListN.{length-replicate}

@@ -1,9 +1,10 @@
+-- Each turn looks up one more column's bit in the palette.
 use Prim.Native.Nat.{_-_}
-use native.Mathlib.Omega.{arith}
 use lib.ListN.{length}
-use Rattle.words.proofs.FillLaws.{filled-to}
-use Rattle.fetch.proofs.FetchLaws.{Fetching, fetch-begins, fetch-turns, fetched-1}
+use Rattle.sample.specs.Stored.{stored}
+use Rattle.sample.specs.Colour.{shown}
 use Rattle.fetch.specs.Fetched.{noMasks}
+use Rattle.fetch.proofs.FetchLaws.{Fetching, fetch-turns, fetching}
 use Rattle.fetch.proofs.one_bit.Statement.{statement}
 use Rattle.fetch.proofs.one_bit.Tie as tie
 
@@ -13,63 +14,13 @@ Inv-loop palette line columns out₀ i₀ out i = Fetching 1 palette noMasks lin
 abbrev μ-loop : tie.MeasureT-loop
 μ-loop palette line columns out₀ i₀ out i = length columns - i
 
-loop-holds : tie.Need-loop-holds Inv-loop μ-loop
-loop-holds c = search fetch-begins
-
-mul-column : tie.Need-mul-column Inv-loop μ-loop
-mul-column c = omega arith
-
-shared-slice-read-column : tie.Need-shared-slice-read-column Inv-loop μ-loop
-shared-slice-read-column c = omega arith
-
-cast-column : tie.Need-cast-column Inv-loop μ-loop
-cast-column c = omega (arith, c .shared-slice-known3 .given (c .before .before .loop .i))
-
-bit-requires : tie.Need-bit-requires Inv-loop μ-loop
-bit-requires c κs = omega (arith, c .before .before .before .before .before .before .pre .0 .1 (c .before .before .loop .i) (omega arith))
-
-opaque-requires : tie.Need-opaque-requires Inv-loop μ-loop
-opaque-requires c κs = (omega arith, c .before .before .before .before .before .before .before .pre .1)
-
-mul-out : tie.Need-mul-out Inv-loop μ-loop
-mul-out c = omega arith
-
-slice-write-out : tie.Need-slice-write-out Inv-loop μ-loop
-slice-write-out c = omega (arith, c .before .before .before .before .loop .inv .filled .long)
-
-add-i : tie.Need-add-i Inv-loop μ-loop
-add-i c = omega arith
-
-loop-less : tie.Need-loop-less Inv-loop μ-loop
-loop-less c = omega arith
-
 loop-again : tie.Need-loop-again Inv-loop μ-loop
-loop-again c =
-    let l = c .before .before .before .before .loop in
-    fetch-turns 1 _ _ _ _ _ _ _ _ (l .inv) (omega arith) (omega (arith, l .inv .filled .long)) (fetched-1 _ _ _ _ _ _ _ (c .opaque .ensures) (c .before .bit .ensures .0))
-
-same-length : tie.Need-same-length Inv-loop μ-loop
-same-length c = c .before .loop .inv .filled .long
-
-returns : tie.Need-returns Inv-loop μ-loop
-returns c = filled-to (omega arith) (c .before .loop .inv .filled)
+unfolding shown stored
+loop-again c = search fetch-turns
 
 pub one-bit-spec : {M : Type 1} → statement M
 one-bit-spec =
-    tie.close
-    (tie.spec
-    Inv-loop
-    μ-loop
-    loop-holds
-    mul-column
-    shared-slice-read-column
-    cast-column
-    bit-requires
-    opaque-requires
-    mul-out
-    slice-write-out
-    add-i
-    loop-less
-    loop-again
-    same-length
-    returns)
+    tie.close (tie.spec
+    Inv-loop μ-loop (λ c. search fetching) (λ c κs. search fetching) (λ c κs. search fetching) (λ c κs. search fetching)
+    (λ c. search fetching) (λ c. search fetching) (λ c. search fetching) (λ c. search fetching) loop-again
+    (λ c. search fetching) (λ c. search fetching))

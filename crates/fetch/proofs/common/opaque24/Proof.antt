@@ -1,10 +1,11 @@
+-- Each turn takes one more column's three bytes, which are its colour where every channel is a byte.
 use Prim.Native.Nat.{_-_}
-use native.Mathlib.Omega.{arith}
-use lib.ListN.{length}
 use mathlib.Core.List.{[]}
-use Rattle.words.proofs.FillLaws.{filled-to}
+use lib.ListN.{length}
+use Rattle.sample.specs.Stored.{stored}
+use Rattle.sample.specs.Colour.{shown}
 use Rattle.fetch.specs.Fetched.{byteMasks}
-use Rattle.fetch.proofs.FetchLaws.{Fetching, fetch-begins, fetch-turns, fetched-24}
+use Rattle.fetch.proofs.FetchLaws.{Fetching, fetch-turns, fetching}
 use Rattle.fetch.proofs.CommonLaws.{masked-low}
 use Rattle.fetch.proofs.common.opaque24.Statement.{statement}
 use Rattle.fetch.proofs.common.opaque24.Tie as tie
@@ -15,67 +16,13 @@ Inv-loop line columns out₀ i₀ out i = Fetching 24 [] (byteMasks 0) line colu
 abbrev μ-loop : tie.MeasureT-loop
 μ-loop line columns out₀ i₀ out i = length columns - i
 
-loop-holds : tie.Need-loop-holds Inv-loop μ-loop
-loop-holds c = search fetch-begins
-
-mul-column : tie.Need-mul-column Inv-loop μ-loop
-mul-column c = omega arith
-
-shared-slice-read-column : tie.Need-shared-slice-read-column Inv-loop μ-loop
-shared-slice-read-column c = omega arith
-
-cast-column : tie.Need-cast-column Inv-loop μ-loop
-cast-column c = omega (arith, c .shared-slice-known3 .given (c .before .before .loop .i))
-
-mul-load-u24 : tie.Need-mul-load-u24 Inv-loop μ-loop
-mul-load-u24 c = omega (arith, c .shared-slice-known3 .given (c .before .before .loop .i))
-
-load-u24-requires : tie.Need-load-u24-requires Inv-loop μ-loop
-load-u24-requires c κs = omega (arith, c .before .before .before .before .before .before .pre .1 (c .before .before .loop .i) (omega arith))
-
-add-out : tie.Need-add-out Inv-loop μ-loop
-add-out c = omega arith
-
-mul-out : tie.Need-mul-out Inv-loop μ-loop
-mul-out c = omega arith
-
-slice-write-out : tie.Need-slice-write-out Inv-loop μ-loop
-slice-write-out c = omega (arith, c .before .before .before .loop .inv .filled .long)
-
-add-i : tie.Need-add-i Inv-loop μ-loop
-add-i c = omega arith
-
-loop-less : tie.Need-loop-less Inv-loop μ-loop
-loop-less c = omega arith
-
 loop-again : tie.Need-loop-again Inv-loop μ-loop
-loop-again c =
-    let l = c .before .before .before .loop in
-    fetch-turns 24 _ _ _ _ _ _ _ _ (l .inv) (omega arith) (omega (arith, l .inv .filled .long)) (fetched-24 _ _ _ _ _ _ _ (masked-low _ (c .load-u24 .ensures .1)) (c .load-u24 .ensures .0))
-
-same-length : tie.Need-same-length Inv-loop μ-loop
-same-length c = c .before .loop .inv .filled .long
-
-returns : tie.Need-returns Inv-loop μ-loop
-returns c = filled-to (omega arith) (c .before .loop .inv .filled)
+unfolding shown stored
+loop-again c = search (fetch-turns, masked-low)
 
 pub opaque24-spec : {M : Type 1} → statement M
 opaque24-spec =
-    tie.close
-    (tie.spec
-    Inv-loop
-    μ-loop
-    loop-holds
-    mul-column
-    shared-slice-read-column
-    cast-column
-    mul-load-u24
-    load-u24-requires
-    add-out
-    mul-out
-    slice-write-out
-    add-i
-    loop-less
-    loop-again
-    same-length
-    returns)
+    tie.close (tie.spec
+    Inv-loop μ-loop (λ c. search fetching) (λ c κs. search fetching) (λ c. search fetching) (λ c κs. search fetching)
+    (λ c. search fetching) (λ c. search fetching) (λ c. search fetching) (λ c. search fetching) (λ c. search fetching)
+    loop-again (λ c. search fetching) (λ c. search fetching))

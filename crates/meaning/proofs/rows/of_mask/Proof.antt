@@ -1,4 +1,4 @@
--- A row that is read lies in the mask, and its bits are the definition's.
+-- A row that is read lies in the mask, and its bits are the definition's; without a mask all are 0.
 use denote.Ref.{now}
 use native.Mathlib.Omega.{arith}
 use Rattle.dib.proofs.HeaderLaws.{sound}
@@ -9,35 +9,45 @@ use Rattle.meaning.proofs.rows.of_mask.Tie as tie
 
 mask-column-requires : tie.Need-mask-column-requires
 mask-column-requires c κs =
-    let a = c .before .before .before .before .before .before in
-    let p = a .args .r .mask in
-    omega (arith, sound (p .header) (fields-ok p (a .pre .0 .mask) (c .before .if1 .taken)) .rows .0, c .magnitude .ensures)
+    let start = c .before .before .before .before .before .before in
+    let p = start .args .r .mask in
+    let fields = fields-ok p (start .pre .0 .good .mask) (c .before .if1 .taken) in
+    omega (arith, sound (p .header) fields .rows .0, c .magnitude .ensures)
 
 row-requires : tie.Need-row-requires
 row-requires c κs =
-    let a = c .before .before .before .before .before .before .before in
-    let p = a .args .r .mask in
-    let t = c .before .before .if1 .taken in
-    (a .pre .0 .mask, t, mask-row-in (p .y) (a .args .j) (p .header) _ _ (fields-ok p (a .pre .0 .mask) t) (c .before .magnitude .ensures) (c .mask-column .ensures))
+    let start = c .before .before .before .before .before .before .before in
+    let p = start .args .r .mask in
+    let fit = start .pre .0 .good .mask in
+    let there = c .before .before .if1 .taken in
+    let rows = c .before .magnitude .ensures in
+    (fit, there, mask-row-in (p .y) (start .args .j) (p .header) _ _ (fields-ok p fit there) rows (c .mask-column .ensures))
 
 bits-requires : tie.Need-bits-requires
 bits-requires c κs =
-    let a = c .before .before .before .before .before .before .before .before .before in
-    let p = a .args .r .mask in
-    let t = c .before .before .before .before .if1 .taken in
-    let f = fields-ok p (a .pre .0 .mask) t in
-    let r = mask-row-in (p .y) (a .args .j) (p .header) _ _ f (c .before .before .before .magnitude .ensures) (c .before .before .mask-column .ensures) in
-    (a .pre .1, bits-reach (p .header) (now (c .before .row .result)) (now (a .args .columns)) f (line-reaches (now (a .args .s)) p (c .before .before .mask-column .result) _ (now (a .args .columns)) (a .pre .0 .mask) t r (c .before .row .ensures) (a .pre .2 t)))
+    let at-row = c .before .before in
+    let start = at-row .before .before .before .before .before .before .before in
+    let p = start .args .r .mask in
+    let columns = now (start .args .columns) in
+    let fit = start .pre .0 .good .mask in
+    let there = at-row .before .before .if1 .taken in
+    let fields = fields-ok p fit there in
+    let row = mask-row-in (p .y) (start .args .j) (p .header) _ _ fields (at-row .before .magnitude .ensures) (at-row .mask-column .ensures) in
+    let reach = line-reaches (now (start .args .s)) p _ _ columns fit there row (c .before .row .ensures) (start .pre .0 .inside there) in
+    (start .pre .1, bits-reach (p .header) (now (c .before .row .result)) columns fields reach)
 
 returns : tie.Need-returns
 returns c =
-    let a = c .before .before .before .before .before .before .before .before .before .before .before .before in
-    mask-filled (now (a .args .s)) (a .args .r) _ (now (a .args .columns)) (a .args .j) _ _ (c .before .before .before .before .before .before .before .if1 .taken) (c .before .before .before .before .before .before .magnitude .ensures) (c .before .before .before .before .before .mask-column .ensures) (c .before .before .before .before .row .ensures) _ _ (c .before .before .bits .ensures)
+    let at-row = c .before .before .before .before in
+    let start = at-row .before .before .before .before .before .before .before .before in
+    mask-filled (now (start .args .s)) (start .args .r) _ (now (start .args .columns)) (start .args .j) _ _ (at-row .before .before .before .if1 .taken)
+    (at-row .before .before .magnitude .ensures) (at-row .before .mask-column .ensures) (at-row .row .ensures) _ _ (c .before .before .bits .ensures)
 
 returns-2 : tie.Need-returns-2
 returns-2 c =
-    let a = c .before .before .before .before .before .before .before .before .before in
-    mask-none (now (a .args .s)) (a .args .r) (now (a .args .columns)) _ _ _ (c .before .before .before .before .if1 .left) (c .before .before .clear-bits .ensures)
+    let start = c .before .before .before .before .before .before .before .before .before in
+    mask-none (now (start .args .s)) (start .args .r) (now (start .args .columns)) _ _ _ (c .before .before .before .before .if1 .left)
+    (c .before .before .clear-bits .ensures)
 
 pub of-mask-spec : {M : Type 1} → statement M
 of-mask-spec =

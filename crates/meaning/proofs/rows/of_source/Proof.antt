@@ -1,56 +1,50 @@
--- A row that is read lies in the picture, and its pixels are the definition's.
+-- A row that is read lies in the picture, and its pixels are the definition's; without a source all are 0.
 use denote.Ref.{now}
-use native.Mathlib.Omega.{arith}
-use Rattle.dib.specs.Header.{rows}
-use Rattle.dib.proofs.HeaderLaws.{sound}
-use Rattle.sample.proofs.AtLaws.{sampled}
-use Rattle.meaning.specs.Sampling.{isFormat1}
-use Rattle.meaning.proofs.FitLaws.{source-fits, column-inside}
-use Rattle.meaning.proofs.RowLaws.{fields-ok, source-none, source-filled, line-reaches}
+use Rattle.meaning.proofs.FitLaws.{source-fits, row-inside}
+use Rattle.meaning.proofs.RowLaws.{fields-ok, source-none, source-filled, line-reaches, as-readable}
 use borrow.Author.Needs.{needs}
 use Rattle.meaning.proofs.rows.of_source.Statement.{statement}
 use Rattle.meaning.proofs.rows.of_source.Tie as tie
 
 source-column-requires : tie.Need-source-column-requires
 source-column-requires c κs =
-    let a = c .before .before .before .before .before in
-    let i = source-fits (a .args .r) (a .pre .0 .0) (c .if1 .taken) in
-    ((a .pre .1 .1 .0, i .cy .0), (i .lines .0, i .cy .1))
+    let start = c .before .before .before .before .before in
+    let fits = source-fits (start .args .r) (start .pre .0 .good) (c .if1 .taken) in
+    ((start .pre .1 .0, fits .cy .0), (fits .lines .0, fits .cy .1))
 
 row-requires : tie.Need-row-requires
 row-requires c κs =
-    let a = c .before .before .before .before .before .before in
-    let r = a .args .r in
-    let i = source-fits r (a .pre .0 .0) (c .before .if1 .taken) in
-    let l = column-inside (r .source .y) (r .«cy_src») (r .cy) (a .args .j) (rows (r .source .header)) (a .pre .1 .1 .0) (i .cy .0) (i .lines .1) in
-    (a .pre .0 .0 .source, c .before .if1 .taken, omega (arith, l, c .source-column .ensures))
+    let start = c .before .before .before .before .before .before in
+    let there = c .before .if1 .taken in
+    let row = row-inside (start .args .r) (start .pre .0 .good) there (start .args .j) _ (start .pre .1 .0) (c .source-column .ensures) in
+    (start .pre .0 .good .source, there, row)
 
 row-requires-2 : tie.Need-row-requires-2
 row-requires-2 c κs =
-    let a = c .before .before .before .before .before .before .before .before in
-    let r = a .args .r in
-    let t = c .before .before .before .if1 .taken in
-    let f = a .pre .0 .0 .source in
-    let i = source-fits r (a .pre .0 .0) t in
-    let l = column-inside (r .source .y) (r .«cy_src») (r .cy) (a .args .j) (rows (r .source .header)) (a .pre .1 .1 .0) (i .cy .0) (i .lines .1) in (
-      (
-        sound (r .source .header) (fields-ok (r .source) f t) .depth,
-        a .pre .1 .1 .1,
-        line-reaches (now (a .args .s)) (r .source) (c .before .before .source-column .result) _ (now (a .args .columns)) f t (omega (arith, l, c .before .before .source-column .ensures)) (c .before .row .ensures) (a .pre .1 .1 .2 t),
-      ),
-      (a .pre .1 .0 .0, a .pre .1 .0 .2, λ _. sampled (r .source .header) (isFormat1 (r .action)) (a .args .m) (f .sound t .masks-ok) (a .pre .0 .1)),
-    )
+    let at-row = c .before .before in
+    let start = at-row .before .before .before .before .before .before in
+    let r = start .args .r in
+    let there = at-row .before .if1 .taken in
+    let row = row-inside r (start .pre .0 .good) there (start .args .j) _ (start .pre .1 .0) (at-row .source-column .ensures) in
+    let columns = now (start .args .columns) in
+    let fit = start .pre .0 .good .source in
+    let reach = line-reaches (now (start .args .s)) (r .source) _ _ columns fit there row (c .before .row .ensures) (start .pre .0 .inside there) in
+    let sound = as-readable r (start .args .m) (start .pre .0 .good) there (start .pre .0 .masks) in
+    (sound, (record { long = start .pre .1 .1; reach = reach }, start .pre .0 .tables))
 
 returns : tie.Need-returns
 returns c =
-    let a = c .before .before .before .before .before .before .before .before .before .before .before in
-    source-filled (now (a .args .s)) (a .args .r) (a .args .m) _ _ (now (a .args .columns)) (a .args .j) _ (a .pre .0 .1) (a .pre .1 .0 .1)
-    (c .before .before .before .before .before .before .if1 .taken) (c .before .before .before .before .before .source-column .ensures) (c .before .before .before .before .row .ensures) _ _ (c .before .before .row2 .ensures)
+    let at-row = c .before .before .before .before in
+    let start = at-row .before .before .before .before .before .before .before in
+    source-filled (now (start .args .s)) (start .args .r) (start .args .m) _ _ (now (start .args .columns)) (start .args .j) _
+    (start .pre .0 .masks) (start .pre .0 .shows) (at-row .before .before .if1 .taken) (at-row .before .source-column .ensures)
+    (at-row .row .ensures) _ _ (c .before .before .row2 .ensures)
 
 returns-2 : tie.Need-returns-2
 returns-2 c =
-    let a = c .before .before .before .before .before .before .before .before .before in
-    source-none (now (a .args .s)) (a .args .r) (now (a .args .columns)) _ _ _ (c .before .before .before .before .if1 .left) (c .before .before .clear .ensures)
+    let start = c .before .before .before .before .before .before .before .before .before in
+    source-none (now (start .args .s)) (start .args .r) (now (start .args .columns)) _ _ _ (c .before .before .before .before .if1 .left)
+    (c .before .before .clear .ensures)
 
 pub of-source-spec : {M : Type 1} → statement M
 of-source-spec =
