@@ -30,7 +30,7 @@ use Rattle.meaning.specs.Meaning.{ruleOf, meaningIn, paintOn}
 use Rattle.meaning.specs.Rows.{InPicture}
 use Rattle.meaning.proofs.FitLaws.{source-fits, column-inside}
 use Rattle.meaning.proofs.RowLaws.{fields-ok}
-use Rattle.draw.specs.Ready.{Mapped}
+use Rattle.draw.specs.Ready.{Lies, Mapped}
 
 -- ---- a row's source pixels and mask bits are those of the record's meaning
 
@@ -43,7 +43,7 @@ module _ (s : List ℕ) (rec : Record) where
   unfolding maskShown
   mask-absent a b row e = cond-false _ _ 0 e ∙ sym (cond-false _ _ 0 e)
 
-  module _ (t : Target) (columns spots : List ℕ) (m : Mapped rec t columns spots) (j q : ℕ) (l : q < t .columns .count) where
+  module _ (t : Target) (columns maskColumns : List ℕ) (m : Mapped rec t columns maskColumns) (j q : ℕ) (l : q < t .columns .count) where
     source-at : sourceShown s rec (getD columns q 0) (sourceColumn (rec .source .y) (rec .«cy_src») (rec .cy) j) ≡ sourcePixel s rec (t .columns .index + q) j
     unfolding sourcePixel
     source-at = go (rec .source .present) refl
@@ -54,38 +54,43 @@ module _ (s : List ℕ) (rec : Record) where
         go false e = source-absent _ _ _ e
         go true e = ap (λ (k : ℕ). sourceShown s rec k (sourceColumn (rec .source .y) (rec .«cy_src») (rec .cy) j)) (m .source e q l)
 
-    mask-at : maskShown s rec (getD spots q 0) (maskPixel (signed32 (rec .mask .y)) j (rows (rec .mask .header))) ≡ maskBit s rec (t .columns .index + q) j
+    mask-at : maskShown s rec (getD maskColumns q 0) (maskPixel (signed32 (rec .mask .y)) j (rows (rec .mask .header))) ≡ maskBit s rec (t .columns .index + q) j
     unfolding maskBit
     mask-at = go (rec .mask .present) refl
       where
         go : (b : Bool) → rec .mask .present ≡ b
-            → maskShown s rec (getD spots q 0) (maskPixel (signed32 (rec .mask .y)) j (rows (rec .mask .header)))
+            → maskShown s rec (getD maskColumns q 0) (maskPixel (signed32 (rec .mask .y)) j (rows (rec .mask .header)))
             ≡ maskShown s rec (maskPixel (signed32 (rec .mask .x)) (t .columns .index + q) (rec .mask .header .width)) (maskPixel (signed32 (rec .mask .y)) j (rows (rec .mask .header)))
         go false e = mask-absent _ _ _ e
         go true e = ap (λ (k : ℕ). maskShown s rec k (maskPixel (signed32 (rec .mask .y)) j (rows (rec .mask .header)))) (m .mask e q l)
 
-  module _ (t : Target) (columns spots : List ℕ) (m : Mapped rec t columns spots) (j : ℕ) where
+  module _ (t : Target) (columns maskColumns : List ℕ) (m : Mapped rec t columns maskColumns) (j : ℕ) where
     -- the front of the buffers that a row is fetched to
     pub colours-are : (d₀ d : List ℕ)
         → Filled (λ k. sourceShown s rec (getD columns k 0) (sourceColumn (rec .source .y) (rec .«cy_src») (rec .cy) j)) d₀ (length columns) d
         → (q : ℕ) → q < t .columns .count → getD (take (length columns) d) q 0 ≡ sourcePixel s rec (t .columns .index + q) j
     colours-are d₀ d p q l =
         let i : q < length columns = omega (arith, m .as-many) in
-        getD-take (length columns) d q 0 i ∙ p .front q i ∙ source-at t columns spots m j q l
+        getD-take (length columns) d q 0 i ∙ p .front q i ∙ source-at t columns maskColumns m j q l
 
     pub bits-are : (d₀ d : List ℕ)
-        → Filled (λ k. maskShown s rec (getD spots k 0) (maskPixel (signed32 (rec .mask .y)) j (rows (rec .mask .header)))) d₀ (length spots) d
+        → Filled (λ k. maskShown s rec (getD maskColumns k 0) (maskPixel (signed32 (rec .mask .y)) j (rows (rec .mask .header)))) d₀ (length maskColumns) d
         → (q : ℕ) → q < t .columns .count → getD (take (length columns) d) q 0 ≡ maskBit s rec (t .columns .index + q) j
     bits-are d₀ d p q l =
         let i : q < length columns = omega (arith, m .as-many) in
-        let k : q < length spots = omega (arith, m .as-many-spots) in
-        getD-take (length columns) d q 0 i ∙ p .front q k ∙ mask-at t columns spots m j q l
+        let k : q < length maskColumns = omega (arith, m .as-many-masks) in
+        getD-take (length columns) d q 0 i ∙ p .front q k ∙ mask-at t columns maskColumns m j q l
+
+-- a row has no more columns than its buffers hold
+pub few-columns : {w h : ℕ} {rec : Record} {t : Target} {columns maskColumns : List ℕ} → Lies w h rec t → Mapped rec t columns maskColumns
+    → length columns ≤ 4096
+few-columns lies mapped = omega (arith, lies .columns, lies .wide, mapped .as-many)
 
 pub mask-wide : {len : ℕ} (rec : Record) → Good len rec → rec .mask .present ≡ true → 1 ≤ rec .mask .header .width
 mask-wide rec g a = sound (rec .mask .header) (fields-ok (rec .mask) (g .mask) a) .width .0
 
 -- the columns that are read lie in the pictures
-module _ {len : ℕ} (rec : Record) (g : Good len rec) (t : Target) (columns spots : List ℕ) (m : Mapped rec t columns spots) where
+module _ {len : ℕ} (rec : Record) (g : Good len rec) (t : Target) (columns maskColumns : List ℕ) (m : Mapped rec t columns maskColumns) where
   pub columns-inside : t .columns .index + t .columns .count ≤ magnitude32 (rec .cx) → rec .source .present ≡ true
       → InPicture (rec .source .header .width) columns
   columns-inside l a k i =
@@ -93,10 +98,10 @@ module _ {len : ℕ} (rec : Record) (g : Good len rec) (t : Target) (columns spo
       let q : k < t .columns .count = omega (arith, m .as-many) in
       omega (arith, m .source a k q, column-inside (rec .source .x) (rec .«cx_src») (rec .cx) (t .columns .index + k) (rec .source .header .width) (omega arith) (f .cx .0) (f .columns .1))
 
-  pub spots-inside : rec .mask .present ≡ true → InPicture (rec .mask .header .width) spots
+  pub mask-columns-inside : rec .mask .present ≡ true → InPicture (rec .mask .header .width) maskColumns
   unfolding maskPixel
-  spots-inside a k i =
-      let q : k < t .columns .count = omega (arith, m .as-many-spots) in
+  mask-columns-inside a k i =
+      let q : k < t .columns .count = omega (arith, m .as-many-masks) in
       omega (arith, m .mask a k q, remainder-lt (signed32 (rec .mask .x) +ℤ pos (t .columns .index + k)) (rec .mask .header .width) (mask-wide rec g a))
 
 -- ---- so the row's rule is the play's

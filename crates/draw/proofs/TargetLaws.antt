@@ -1,12 +1,14 @@
--- What the rows of a clipped target are drawn from is there. Assumes nothing.
+-- What the rows of a clipped target are drawn from is there: the target lies on the surface, and its columns are mapped. Assumes nothing.
 use mathlib.Core.Path.{_≡_, sym, ap, _∙_, subst}
-use mathlib.Core.Bool.{true}
+use mathlib.Core.Bool.{true, cond}
 use mathlib.Core.List.{List, []}
 use Prim.Native.Nat.{ℕ, _+_, _≤_, _<_}
 use native.Mathlib.Omega.{arith}
-use lib.ListN.{length, getD, take}
+use lib.ListN.{length, take}
 use lib.Seq.{sets, getD-take, length-take-le}
 use Rattle.words.specs.Bytes.{magnitude32, signed32}
+use Rattle.words.specs.Filled.{Filled}
+use Rattle.words.proofs.FillLaws.{filled-front}
 use Rattle.pixel.specs.Place.{maskPixel}
 use Rattle.judge.specs.declared.Record.{Record}
 use Rattle.region.specs.declared.Target.{Target}
@@ -47,13 +49,14 @@ target-lies w h clip n t e l z =
       line-numbers = num .1 .last;
     }
 
-pub mapped : (rec : Record) (t : Target) (d e : List ℕ) → t .columns .count ≤ length d → t .columns .count ≤ length e
-    → (rec .source .present ≡ true → (k : ℕ) → k < t .columns .count → getD d k 0 ≡ sourceColumn (rec .source .x) (rec .«cx_src») (rec .cx) (t .columns .index + k))
-    → (rec .mask .present ≡ true → (k : ℕ) → k < t .columns .count → getD e k 0 ≡ maskPixel (signed32 (rec .mask .x)) (t .columns .index + k) (rec .mask .header .width))
-    → Mapped rec t (take (t .columns .count) d) (take (t .columns .count) e)
-mapped rec t d e a b f g = record {
-  as-many = length-take-le (t .columns .count) d a;
-  as-many-spots = length-take-le (t .columns .count) e b;
-  source = λ p k l. getD-take (t .columns .count) d k 0 l ∙ f p k l;
-  mask = λ p k l. getD-take (t .columns .count) e k 0 l ∙ g p k l;
-}
+-- the buffers of columns, as they are filled
+module _ (rec : Record) (t : Target) (d₀ e₀ d e : List ℕ) (a : t .columns .count ≤ length d₀) (b : t .columns .count ≤ length e₀) where
+  pub mapped : Filled (λ k. sourceColumn (rec .source .x) (rec .«cx_src») (rec .cx) (t .columns .index + k)) d₀ (cond (rec .source .present) (t .columns .count) 0) d
+      → Filled (λ k. maskPixel (signed32 (rec .mask .x)) (t .columns .index + k) (rec .mask .header .width)) e₀ (cond (rec .mask .present) (t .columns .count) 0) e
+      → Mapped rec t (take (t .columns .count) d) (take (t .columns .count) e)
+  mapped f g = record {
+    as-many = length-take-le (t .columns .count) d (omega (arith, f .long));
+    as-many-masks = length-take-le (t .columns .count) e (omega (arith, g .long));
+    source = λ p k l. getD-take (t .columns .count) d k 0 l ∙ filled-front (rec .source .present) (t .columns .count) f p k l;
+    mask = λ p k l. getD-take (t .columns .count) e k 0 l ∙ filled-front (rec .mask .present) (t .columns .count) g p k l;
+  }
