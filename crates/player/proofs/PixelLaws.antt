@@ -7,7 +7,7 @@ use native.Mathlib.Omega.{arith}
 use lib.ListN.{length}
 use Rattle.words.specs.Bytes.{le32}
 use Rattle.words.proofs.ByteLaws.{le-lt}
-use Rattle.emr.specs.Numbers.{numbersOf}
+use Rattle.emr.specs.Fixed.{fieldsAt}
 use Rattle.judge.specs.Record.{recordOf}
 use Rattle.region.specs.declared.Target.{Target}
 use Rattle.region.specs.declared.Rectangle.{Rectangle}
@@ -41,7 +41,7 @@ module _ (w h : ℕ) (f : Paint) (t : Target) (on : On w (t .columns) × On h (t
 -- a record's target is the one that document 01 describes
 target-exact : (w h : ℕ) (s : List ℕ) (clip : Rectangle) → Bytes s → Words clip
     → Exact w h clip (meaningOf s .bounds) (meaningOf s .x) (meaningOf s .y) (meaningOf s .cx) (meaningOf s .cy) (targetIn w h (meaningOf s) clip)
-unfolding meaningOf recordOf numbersOf
+unfolding meaningOf recordOf fieldsAt
 target-exact w h s clip b c =
     let word : (at : ℕ) → le32 s at < 2 ^ 32 = λ at. le-lt 4 s at b in
     exact w h clip _ _ _ _ _ c (record { left = word 8; top = word 12; right = word 16; bottom = word 20 }) (word _) (word _) (word _) (word _)

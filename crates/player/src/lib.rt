@@ -37,15 +37,15 @@ fn accepted(
     journal: &mut [u8],
     used: u64,
     s: &[u8],
-    n: Record,
+    rec: Record,
     clip: Rectangle,
     brush: u32,
 ) -> Answer
-    requires { ⌜ (limits width height (length (now surface)) (length (now journal)) used ≡ 0) × Good (length (now s)) n ⌝ }
-    ensures { λ r. ⌜ left r (now (surface .exit)) (now (journal .exit)) ≡ acceptedOf width (workOf width height (meaningIn (now (s .entry)) n) clip brush) (lent (now (surface .entry)) (now (journal .entry)) used) ⌝ }
+    requires { ⌜ (limits width height (length (now surface)) (length (now journal)) used ≡ 0) × Good (length (now s)) rec ⌝ }
+    ensures { λ r. ⌜ left r (now (surface .exit)) (now (journal .exit)) ≡ acceptedOf width (workOf width height (meaningIn (now (s .entry)) rec) clip brush) (lent (now (surface .entry)) (now (journal .entry)) used) ⌝ }
 {
-    let bounds = n.bounds;
-    let t = region::clipped_target(width, height, clip, bounds, n.x, n.y, n.cx, n.cy);
+    let bounds = rec.bounds;
+    let t = region::clipped_target(width, height, clip, bounds, rec.x, rec.y, rec.cx, rec.cy);
     let pixels = t.columns.count * t.rows.count;
     let records = journal.len() / journal::STRIDE;
     let free = records as u64 - used;
@@ -59,13 +59,13 @@ fn accepted(
         journal,
         used as usize,
         s,
-        n,
+        rec,
         clip,
         t,
         brush,
     );
     let closing = (used + pixels) as usize;
-    journal::put(journal, closing, journal::MARK, pixels as u32, n.kind);
+    journal::put(journal, closing, journal::MARK, pixels as u32, rec.kind);
     Answer {
         status: 0,
         pixels: pixels as u32,
@@ -90,11 +90,11 @@ pub fn play(
     if status != 0 {
         return refused(status, used);
     }
-    let n = match judge::check(s) {
-        Checked::Accepted(n) => n,
+    let rec = match judge::check(s) {
+        Checked::Accepted(rec) => rec,
         Checked::Refused(k) => return refused(k, used),
     };
-    accepted(surface, width, height, journal, used, s, n, clip, brush)
+    accepted(surface, width, height, journal, used, s, rec, clip, brush)
 }
 
 // Undoes the last play. All its records are tested before one pixel is restored: a refused undo changes nothing.

@@ -18,8 +18,8 @@ returns c = search play-limits
 check-requires : tie.Need-check-requires
 check-requires c κs = search needs
 
-enum-known-n : tie.Need-enum-known-n
-enum-known-n c = search needs
+enum-known-rec : tie.Need-enum-known-rec
+enum-known-rec c = search needs
 
 enum-known-k : tie.Need-enum-known-k
 enum-known-k c = search needs
@@ -31,7 +31,7 @@ returns-2 : tie.Need-returns-2
 returns-2 c = search play-refused
 
 accepted-requires : tie.Need-accepted-requires
-accepted-requires c κs = (sym (c .before .before .before .before .before .before .before .status .ensures) ∙ c .before .before .before .before .before .before .if1 .left, accepted _ _ (sym (c .before .before .before .n .given .1) ∙ c .before .before .before .before .before .check .ensures) .1)
+accepted-requires c κs = (sym (c .before .before .before .before .before .before .before .status .ensures) ∙ c .before .before .before .before .before .before .if1 .left, accepted _ _ (sym (c .before .before .before .rec .given .1) ∙ c .before .before .before .before .before .check .ensures) .1)
 
 same-length : tie.Need-same-length
 same-length c = search needs
@@ -42,7 +42,7 @@ same-length-2 c = search needs
 returns-3 : tie.Need-returns-3
 returns-3 c =
     let a = c .before .before .before .before .before .before .before .before .before .before .before .before .before .before .before .before in
-    play-accepted (a .args .width) (a .args .height) (now (a .args .surface)) (now (a .args .journal)) (a .args .used) (now (a .args .s)) (a .args .clip) (a .args .brush) _ (c .before .before .before .before .before .before .before .before .before .before .before .before .status .ensures) (c .before .before .before .before .before .before .before .before .before .before .before .if1 .left) _ (c .before .before .before .before .before .before .before .before .before .before .check .ensures) (c .before .before .before .before .before .before .before .before .n .given .0 .0) _ (c .before .before .before .before .before .before .before .before .n .given .1) (c .before .before .before .before .accepted .ensures)
+    play-accepted (a .args .width) (a .args .height) (now (a .args .surface)) (now (a .args .journal)) (a .args .used) (now (a .args .s)) (a .args .clip) (a .args .brush) _ (c .before .before .before .before .before .before .before .before .before .before .before .before .status .ensures) (c .before .before .before .before .before .before .before .before .before .before .before .if1 .left) _ (c .before .before .before .before .before .before .before .before .before .before .check .ensures) (c .before .before .before .before .before .before .before .before .rec .given .0 .0) _ (c .before .before .before .before .before .before .before .before .rec .given .1) (c .before .before .before .before .accepted .ensures)
 
 pub play-spec : {M : Type 1} → statement M
 play-spec =
@@ -52,7 +52,7 @@ play-spec =
     refused-requires
     returns
     check-requires
-    enum-known-n
+    enum-known-rec
     enum-known-k
     refused-requires-2
     returns-2
