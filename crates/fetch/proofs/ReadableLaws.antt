@@ -1,6 +1,6 @@
--- A header that was passed has pixels that can be read. Assumes nothing.
+-- A header that statuses 8 and 9 let pass has a listed depth, masks of 1 to 8 ones each, and at 24 bits none of its own. Assumes nothing.
 use mathlib.Core.Path.{_≡_, refl, sym, _∙_}
-use mathlib.Core.Bool.{Bool, true, false, not, _||_, _&&_, and-false, true≢false}
+use mathlib.Core.Bool.{Bool, true, false, _||_, _&&_, and-false, true≢false}
 use Prim.Native.Nat.{ℕ}
 use lib.Dec.{eqb}
 use borrow.Author.Tests.{eqb-true, not-false}

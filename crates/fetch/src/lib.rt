@@ -151,7 +151,8 @@ fn column_at(columns: &[u32], i: usize) -> usize
 
 // A palette's colour with alpha 255.
 fn opaque(palette: &[u32; 256], n: u32) -> u32
-    requires { ⌜ (n < 256) × Colours (now palette) ⌝ }
+    requires { ⌜ n < 256 ⌝ }
+    requires { ⌜ Colours (now palette) ⌝ }
     ensures { λ r. ⌜ r ≡ 255 * 2 ^ 24 + getD (now (palette .entry)) n 0 ⌝ }
 {
     0xFF000000 + palette[n as usize]
