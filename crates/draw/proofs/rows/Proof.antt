@@ -178,6 +178,7 @@ returns c = rows-end _ _ _ _ _ _ _ _ _ _ _ _ _ (c .before .before .loop .inv .0)
 pub rows-spec : {M : Type 1} → statement M
 rows-spec =
     tie.close (tie.spec
-    Inv-loop μ-loop (λ c κs. tt) cast-x loop-holds add-j cast-j add-y cast-y (λ c. omega arith) of-source-requires (λ c. omega arith)
-    of-mask-requires array-share-prefix-colours slice-aggregate-row array-share-prefix-bits slice-aggregate-row-2 row-requires add-next
-    (λ c. omega arith) (λ c. omega arith) loop-again same-length same-length-2 returns)
+    Inv-loop μ-loop (λ c κs. tt) cast-x loop-holds add-j cast-j add-y cast-y (λ c. omega arith) of-source-requires
+    (λ c. omega arith) of-mask-requires array-share-prefix-colours slice-aggregate-row array-share-prefix-bits
+    slice-aggregate-row-2 row-requires add-next (λ c. omega arith) (λ c. omega arith) loop-again same-length same-length-2
+    returns)

@@ -7,14 +7,8 @@ use Rattle.history.proofs.call_length.Tie as tie
 returns : tie.Need-returns
 returns c = length-short _ _ (omega arith)
 
-sub-room : tie.Need-sub-room
-sub-room c = search needs
-
 returns-2 : tie.Need-returns-2
 returns-2 c = length-short _ _ (omega arith)
-
-read-u32-requires : tie.Need-read-u32-requires
-read-u32-requires c κs = search needs
 
 returns-3 : tie.Need-returns-3
 returns-3 c = length-undo _ _ (omega arith) (omega arith)
@@ -25,24 +19,6 @@ returns-4 c = search length-other
 returns-5 : tie.Need-returns-5
 returns-5 c = length-long _ _ (omega arith) (omega arith)
 
-add-read-u32 : tie.Need-add-read-u32
-add-read-u32 c = search needs
-
-read-u32-requires-2 : tie.Need-read-u32-requires-2
-read-u32-requires-2 c κs = search needs
-
-cast-size : tie.Need-cast-size
-cast-size c = search needs
-
-add-whole : tie.Need-add-whole
-add-whole c = search needs
-
-mul-whole : tie.Need-mul-whole
-mul-whole c = search needs
-
-add-whole-2 : tie.Need-add-whole-2
-add-whole-2 c = search needs
-
 returns-6 : tie.Need-returns-6
 returns-6 c = length-long _ _ (omega arith) (omega arith)
 
@@ -51,20 +27,6 @@ returns-7 c = search length-play
 
 pub call-length-spec : {M : Type 1} → statement M
 call-length-spec =
-    tie.close
-    (tie.spec
-    returns
-    sub-room
-    returns-2
-    read-u32-requires
-    returns-3
-    returns-4
-    returns-5
-    add-read-u32
-    read-u32-requires-2
-    cast-size
-    add-whole
-    mul-whole
-    add-whole-2
-    returns-6
-    returns-7)
+    tie.close (tie.spec
+    returns (λ c. search needs) returns-2 (λ c κs. search needs) returns-3 returns-4 returns-5 (λ c. search needs)
+    (λ c κs. search needs) (λ c. search needs) (λ c. search needs) (λ c. search needs) (λ c. search needs) returns-6 returns-7)

@@ -16,20 +16,11 @@ abbrev μ-loop : tie.MeasureT-loop
 loop-holds : tie.Need-loop-holds Inv-loop μ-loop
 loop-holds c = refl
 
-call-length-requires : tie.Need-call-length-requires Inv-loop μ-loop
-call-length-requires c κs = search needs
-
 returns : tie.Need-returns Inv-loop μ-loop
 returns c = search formed-not
 
 add-place : tie.Need-add-place Inv-loop μ-loop
 add-place c = omega (arith, call-inside _ _ _ (c .before .call-length .ensures) (c .if1 .left))
-
-sub-left : tie.Need-sub-left Inv-loop μ-loop
-sub-left c = omega arith
-
-loop-less : tie.Need-loop-less Inv-loop μ-loop
-loop-less c = omega arith
 
 loop-again : tie.Need-loop-again Inv-loop μ-loop
 loop-again c = search formed-more
@@ -39,15 +30,6 @@ returns-2 c = search formed-end
 
 pub well-formed-spec : {M : Type 1} → statement M
 well-formed-spec =
-    tie.close
-    (tie.spec
-    Inv-loop
-    μ-loop
-    loop-holds
-    call-length-requires
-    returns
-    add-place
-    sub-left
-    loop-less
-    loop-again
+    tie.close (tie.spec
+    Inv-loop μ-loop loop-holds (λ c κs. search needs) returns add-place (λ c. omega arith) (λ c. omega arith) loop-again
     returns-2)

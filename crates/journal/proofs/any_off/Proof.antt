@@ -10,29 +10,14 @@ Inv-loop journal from n width height end i₀ i = Tested width height journal fr
 abbrev μ-loop : tie.MeasureT-loop
 μ-loop journal from n width height end i₀ i = end - i
 
-add-end : tie.Need-add-end Inv-loop μ-loop
-add-end c = omega arith
-
 loop-holds : tie.Need-loop-holds Inv-loop μ-loop
 loop-holds c = search tested-none
-
-first-requires : tie.Need-first-requires Inv-loop μ-loop
-first-requires c κs = omega arith
 
 returns : tie.Need-returns Inv-loop μ-loop
 returns c = search tested-column
 
-second-requires : tie.Need-second-requires Inv-loop μ-loop
-second-requires c κs = omega arith
-
 returns-2 : tie.Need-returns-2 Inv-loop μ-loop
 returns-2 c = search tested-row
-
-add-i : tie.Need-add-i Inv-loop μ-loop
-add-i c = omega arith
-
-loop-less : tie.Need-loop-less Inv-loop μ-loop
-loop-less c = omega arith
 
 loop-again : tie.Need-loop-again Inv-loop μ-loop
 loop-again c =
@@ -44,17 +29,6 @@ returns-3 c = search tested-all
 
 pub any-off-spec : {M : Type 1} → statement M
 any-off-spec =
-    tie.close
-    (tie.spec
-    Inv-loop
-    μ-loop
-    add-end
-    loop-holds
-    first-requires
-    returns
-    second-requires
-    returns-2
-    add-i
-    loop-less
-    loop-again
-    returns-3)
+    tie.close (tie.spec
+    Inv-loop μ-loop (λ c. omega arith) loop-holds (λ c κs. omega arith) returns (λ c κs. omega arith) returns-2
+    (λ c. omega arith) (λ c. omega arith) loop-again returns-3)

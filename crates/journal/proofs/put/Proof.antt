@@ -1,41 +1,20 @@
+-- Three numbers stored one behind the other are a record.
+use denote.Ref.{now}
 use Rattle.journal.proofs.RecordLaws.{three}
 use borrow.Author.Needs.{needs}
 use Rattle.journal.proofs.put.Statement.{statement}
 use Rattle.journal.proofs.put.Tie as tie
 
-mul-at : tie.Need-mul-at
-mul-at c = search needs
-
-store-u32-requires : tie.Need-store-u32-requires
-store-u32-requires c κs = search needs
-
-add-store-u32 : tie.Need-add-store-u32
-add-store-u32 c = search needs
-
-store-u32-requires-2 : tie.Need-store-u32-requires-2
-store-u32-requires-2 c κs = search needs
-
-add-store-u32-2 : tie.Need-add-store-u32-2
-add-store-u32-2 c = search needs
-
-store-u32-requires-3 : tie.Need-store-u32-requires-3
-store-u32-requires-3 c κs = search needs
-
-same-length : tie.Need-same-length
-same-length c = search needs
-
 returns : tie.Need-returns
-returns c = search three
+returns c =
+    let at-third = c .before .before in
+    let at-second = at-third .before .before .before .before in
+    let at-first = at-second .before .before .before .before in
+    let a = at-first .before .before .before .args in
+    three (now (a .journal)) _ _ _ _ (a .first) (a .second) (a .third) (at-first .store-u32 .ensures) (at-second .store-u322 .ensures) (at-third .store-u323 .ensures)
 
 pub put-spec : {M : Type 1} → statement M
 put-spec =
-    tie.close
-    (tie.spec
-    mul-at
-    store-u32-requires
-    add-store-u32
-    store-u32-requires-2
-    add-store-u32-2
-    store-u32-requires-3
-    same-length
-    returns)
+    tie.close (tie.spec
+    (λ c. search needs) (λ c κs. search needs) (λ c. search needs) (λ c κs. search needs) (λ c. search needs)
+    (λ c κs. search needs) (λ c. search needs) returns)

@@ -17,29 +17,8 @@ on-surface : (c : tie.After-third Inv-loop μ-loop)
     < length (c .before .before .before .before .loop .surface)
 on-surface c = search restoring-on
 
-add-i : tie.Need-add-i Inv-loop μ-loop
-add-i c = omega arith
-
 loop-holds : tie.Need-loop-holds Inv-loop μ-loop
 loop-holds c = search restoring-none
-
-sub-i : tie.Need-sub-i Inv-loop μ-loop
-sub-i c = omega arith
-
-first-requires : tie.Need-first-requires Inv-loop μ-loop
-first-requires c κs = omega arith
-
-cast-x : tie.Need-cast-x Inv-loop μ-loop
-cast-x c = omega arith
-
-second-requires : tie.Need-second-requires Inv-loop μ-loop
-second-requires c κs = omega arith
-
-cast-y : tie.Need-cast-y Inv-loop μ-loop
-cast-y c = omega arith
-
-third-requires : tie.Need-third-requires Inv-loop μ-loop
-third-requires c κs = omega arith
 
 mul-surface : tie.Need-mul-surface Inv-loop μ-loop
 mul-surface c = omega (arith, on-surface c)
@@ -53,37 +32,15 @@ mul-surface-2 c = omega (arith, on-surface c)
 slice-write-surface : tie.Need-slice-write-surface Inv-loop μ-loop
 slice-write-surface c = omega (arith, on-surface c)
 
-loop-less : tie.Need-loop-less Inv-loop μ-loop
-loop-less c = omega arith
-
 loop-again : tie.Need-loop-again Inv-loop μ-loop
 loop-again c = search restoring-one
-
-same-length : tie.Need-same-length Inv-loop μ-loop
-same-length c = omega arith
 
 returns : tie.Need-returns Inv-loop μ-loop
 returns c = search restoring-all
 
 pub restore-spec : {M : Type 1} → statement M
 restore-spec =
-    tie.close
-    (tie.spec
-    Inv-loop
-    μ-loop
-    add-i
-    loop-holds
-    sub-i
-    first-requires
-    cast-x
-    second-requires
-    cast-y
-    third-requires
-    mul-surface
-    add-surface
-    mul-surface-2
-    slice-write-surface
-    loop-less
-    loop-again
-    same-length
-    returns)
+    tie.close (tie.spec
+    Inv-loop μ-loop (λ c. omega arith) loop-holds (λ c. omega arith) (λ c κs. omega arith) (λ c. omega arith)
+    (λ c κs. omega arith) (λ c. omega arith) (λ c κs. omega arith) mul-surface add-surface mul-surface-2 slice-write-surface
+    (λ c. omega arith) loop-again (λ c. omega arith) returns)

@@ -9,6 +9,4 @@ unfolding limits
 returns c = cc
 
 pub status-spec : {M : Type 1} → statement M
-status-spec =
-    tie.close (tie.spec
-    (λ c κs. search needs) (λ c κs. search needs) (λ c κs. search needs) (λ c κs. search needs) returns)
+status-spec = tie.close (tie.spec (λ c κs. search needs) (λ c κs. search needs) (λ c κs. search needs) (λ c κs. search needs) returns)

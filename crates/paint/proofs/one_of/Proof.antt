@@ -5,12 +5,6 @@ use borrow.Author.Needs.{needs}
 use Rattle.paint.proofs.one_of.Statement.{statement}
 use Rattle.paint.proofs.one_of.Tie as tie
 
-pixel-requires : tie.Need-pixel-requires
-pixel-requires c κs = search needs
-
-pixel-requires-2 : tie.Need-pixel-requires-2
-pixel-requires-2 c κs = search needs
-
 returns : tie.Need-returns
 returns c = c .before .before .pixel .ensures ∙ sym (cond-true _ _ _ (eq-eqb _ _ (c .if1 .taken)))
 
@@ -18,4 +12,4 @@ returns-2 : tie.Need-returns-2
 returns-2 c = c .before .pixel2 .ensures ∙ sym (cond-false _ _ _ (ne-eqb _ _ (c .if1 .left)))
 
 pub one-of-spec : {M : Type 1} → statement M
-one-of-spec = tie.close (tie.spec pixel-requires pixel-requires-2 returns returns-2)
+one-of-spec = tie.close (tie.spec (λ c κs. search needs) (λ c κs. search needs) returns returns-2)

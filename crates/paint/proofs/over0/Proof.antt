@@ -16,56 +16,8 @@ Inv-loop surface₀ width journal₀ at x y colours c start i₀ surface journal
 abbrev μ-loop : tie.MeasureT-loop
 μ-loop surface₀ width journal₀ at x y colours c start i₀ surface journal i = length colours - i
 
-mul-start : tie.Need-mul-start Inv-loop μ-loop
-mul-start c = omega arith
-
-add-start : tie.Need-add-start Inv-loop μ-loop
-add-start c = omega arith
-
 loop-holds : tie.Need-loop-holds Inv-loop μ-loop
 loop-holds c = search row-begins
-
-add-k : tie.Need-add-k Inv-loop μ-loop
-add-k c = omega arith
-
-mul-old : tie.Need-mul-old Inv-loop μ-loop
-mul-old c = omega arith
-
-slice-read-old : tie.Need-slice-read-old Inv-loop μ-loop
-slice-read-old c = omega arith
-
-add-put : tie.Need-add-put Inv-loop μ-loop
-add-put c = omega arith
-
-cast-put : tie.Need-cast-put Inv-loop μ-loop
-cast-put c = omega arith
-
-add-put-2 : tie.Need-add-put-2 Inv-loop μ-loop
-add-put-2 c = omega arith
-
-put-requires : tie.Need-put-requires Inv-loop μ-loop
-put-requires c κs = omega arith
-
-mul-pixel0 : tie.Need-mul-pixel0 Inv-loop μ-loop
-mul-pixel0 c = omega arith
-
-shared-slice-read-pixel0 : tie.Need-shared-slice-read-pixel0 Inv-loop μ-loop
-shared-slice-read-pixel0 c = omega arith
-
-pixel0-requires : tie.Need-pixel0-requires Inv-loop μ-loop
-pixel0-requires c κs = omega arith
-
-mul-surface : tie.Need-mul-surface Inv-loop μ-loop
-mul-surface c = omega arith
-
-slice-write-surface : tie.Need-slice-write-surface Inv-loop μ-loop
-slice-write-surface c = omega arith
-
-add-i : tie.Need-add-i Inv-loop μ-loop
-add-i c = omega arith
-
-loop-less : tie.Need-loop-less Inv-loop μ-loop
-loop-less c = omega arith
 
 loop-again : tie.Need-loop-again Inv-loop μ-loop
 loop-again c =
@@ -74,39 +26,13 @@ loop-again c =
     turns (λ (i d : ℕ). over0 (getD (a .colours .now) i 0) d (a .c)) (a .width) (a .at) (a .x) (length (a .colours .now)) (a .y) (a .surface .now) (a .journal .now) (l .surface) (l .journal) _ (l .i) _
     (l .inv) (omega arith) (c .pixel0 .ensures) (c .before .before .before .before .put .ensures)
 
-same-length : tie.Need-same-length Inv-loop μ-loop
-same-length c = omega arith
-
-same-length-2 : tie.Need-same-length-2 Inv-loop μ-loop
-same-length-2 c = omega arith
-
 returns : tie.Need-returns Inv-loop μ-loop
 returns c = row-ends _ _ _ _ _ _ _ _ _ _ _ (c .before .loop .inv) (c .loop-test .left)
 
 pub over0-spec : {M : Type 1} → statement M
 over0-spec =
-    tie.close
-    (tie.spec
-    Inv-loop
-    μ-loop
-    mul-start
-    add-start
-    loop-holds
-    add-k
-    mul-old
-    slice-read-old
-    add-put
-    cast-put
-    add-put-2
-    put-requires
-    mul-pixel0
-    shared-slice-read-pixel0
-    pixel0-requires
-    mul-surface
-    slice-write-surface
-    add-i
-    loop-less
-    loop-again
-    same-length
-    same-length-2
-    returns)
+    tie.close (tie.spec
+    Inv-loop μ-loop (λ c. omega arith) (λ c. omega arith) loop-holds (λ c. omega arith) (λ c. omega arith) (λ c. omega arith)
+    (λ c. omega arith) (λ c. omega arith) (λ c. omega arith) (λ c κs. omega arith) (λ c. omega arith) (λ c. omega arith)
+    (λ c κs. omega arith) (λ c. omega arith) (λ c. omega arith) (λ c. omega arith) (λ c. omega arith) loop-again
+    (λ c. omega arith) (λ c. omega arith) returns)

@@ -7,9 +7,6 @@ use borrow.Author.Needs.{needs}
 use Rattle.player.proofs.accepted.Statement.{statement}
 use Rattle.player.proofs.accepted.Tie as tie
 
-clipped-target-requires : tie.Need-clipped-target-requires
-clipped-target-requires c κs = search needs
-
 mul-pixels : tie.Need-mul-pixels
 mul-pixels c =
     let a = c .before .before .before .before .before .before in
@@ -24,9 +21,6 @@ add-if1 : tie.Need-add-if1
 add-if1 c =
     let a = c .before .before .before .before .before .before in
     omega (arith, pixels-few (a .args .width) (a .args .height) (now (a .args .surface)) (now (a .args .journal)) (a .args .used) (now (a .args .s)) (a .args .rec) (a .args .clip) (a .args .brush) _ (a .pre .0) (c .before .clipped-target .ensures))
-
-refused-requires : tie.Need-refused-requires
-refused-requires c κs = search needs
 
 returns : tie.Need-returns
 returns c =
@@ -50,9 +44,6 @@ cast-put c =
     let a = c .before .before .before .before .before .before .before .before .before .before .before .before .before .before .before in
     omega (arith, pixels-few (a .args .width) (a .args .height) (now (a .args .surface)) (now (a .args .journal)) (a .args .used) (now (a .args .s)) (a .args .rec) (a .args .clip) (a .args .brush) _ (a .pre .0) (c .before .before .before .before .before .before .before .before .before .before .clipped-target .ensures))
 
-put-requires : tie.Need-put-requires
-put-requires c κs = search needs
-
 cast-t26 : tie.Need-cast-t26
 cast-t26 c =
     let a = c .before .before .before .before .before .before .before .before .before .before .before .before .before .before .before .before .before .before in
@@ -70,12 +61,6 @@ add-t27 c =
     let p = passed (a .args .width) (a .args .height) (length (now (a .args .surface))) (length (now (a .args .journal))) (a .args .used) (a .pre .0) in
     omega (arith, pixels-few (a .args .width) (a .args .height) (now (a .args .surface)) (now (a .args .journal)) (a .args .used) (now (a .args .s)) (a .args .rec) (a .args .clip) (a .args .brush) _ (a .pre .0) (c .before .before .before .before .before .before .before .before .before .before .before .before .before .clipped-target .ensures), p .enough, p .most)
 
-same-length : tie.Need-same-length
-same-length c = search needs
-
-same-length-2 : tie.Need-same-length-2
-same-length-2 c = search needs
-
 returns-2 : tie.Need-returns-2
 returns-2 c =
     let a = c .before .before .before .before .before .before .before .before .before .before .before .before .before .before .before .before .before .before in
@@ -83,21 +68,6 @@ returns-2 c =
 
 pub accepted-spec : {M : Type 1} → statement M
 accepted-spec =
-    tie.close
-    (tie.spec
-    clipped-target-requires
-    mul-pixels
-    sub-free
-    add-if1
-    refused-requires
-    returns
-    clipped-requires
-    add-closing
-    cast-put
-    put-requires
-    cast-t26
-    add-t17
-    add-t27
-    same-length
-    same-length-2
-    returns-2)
+    tie.close (tie.spec
+    (λ c κs. search needs) mul-pixels sub-free add-if1 (λ c κs. search needs) returns clipped-requires add-closing cast-put
+    (λ c κs. search needs) cast-t26 add-t17 add-t27 (λ c. search needs) (λ c. search needs) returns-2)

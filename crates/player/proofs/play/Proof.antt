@@ -6,38 +6,14 @@ use borrow.Author.Needs.{needs}
 use Rattle.player.proofs.play.Statement.{statement}
 use Rattle.player.proofs.play.Tie as tie
 
-status-requires : tie.Need-status-requires
-status-requires c κs = search needs
-
-refused-requires : tie.Need-refused-requires
-refused-requires c κs = search needs
-
 returns : tie.Need-returns
 returns c = search play-limits
-
-check-requires : tie.Need-check-requires
-check-requires c κs = search needs
-
-enum-known-rec : tie.Need-enum-known-rec
-enum-known-rec c = search needs
-
-enum-known-k : tie.Need-enum-known-k
-enum-known-k c = search needs
-
-refused-requires-2 : tie.Need-refused-requires-2
-refused-requires-2 c κs = search needs
 
 returns-2 : tie.Need-returns-2
 returns-2 c = search play-refused
 
 accepted-requires : tie.Need-accepted-requires
 accepted-requires c κs = (sym (c .before .before .before .before .before .before .before .status .ensures) ∙ c .before .before .before .before .before .before .if1 .left, accepted _ _ (sym (c .before .before .before .rec .given .1) ∙ c .before .before .before .before .before .check .ensures) .1)
-
-same-length : tie.Need-same-length
-same-length c = search needs
-
-same-length-2 : tie.Need-same-length-2
-same-length-2 c = search needs
 
 returns-3 : tie.Need-returns-3
 returns-3 c =
@@ -46,17 +22,6 @@ returns-3 c =
 
 pub play-spec : {M : Type 1} → statement M
 play-spec =
-    tie.close
-    (tie.spec
-    status-requires
-    refused-requires
-    returns
-    check-requires
-    enum-known-rec
-    enum-known-k
-    refused-requires-2
-    returns-2
-    accepted-requires
-    same-length
-    same-length-2
-    returns-3)
+    tie.close (tie.spec
+    (λ c κs. search needs) (λ c κs. search needs) returns (λ c κs. search needs) (λ c. search needs) (λ c. search needs)
+    (λ c κs. search needs) returns-2 accepted-requires (λ c. search needs) (λ c. search needs) returns-3)

@@ -6,16 +6,10 @@ use borrow.Author.Needs.{needs}
 use Rattle.meaning.proofs.columns.mask_column.Statement.{statement}
 use Rattle.meaning.proofs.columns.mask_column.Tie as tie
 
-signed-requires : tie.Need-signed-requires
-signed-requires c κs = search needs
-
-mask-pixel-requires : tie.Need-mask-pixel-requires
-mask-pixel-requires c κs = search needs
-
 returns : tie.Need-returns
 returns c =
     c .mask-pixel .ensures
     ∙ ap (λ (z : ℤ). maskPixel z (c .before .before .args .i) (c .before .before .args .extent)) (toZ-ofZ (record { sfits = c .before .signed .ok }) ∙ c .before .signed .ensures)
 
 pub mask-column-spec : {M : Type 1} → statement M
-mask-column-spec = tie.close (tie.spec signed-requires mask-pixel-requires returns)
+mask-column-spec = tie.close (tie.spec (λ c κs. search needs) (λ c κs. search needs) returns)

@@ -15,26 +15,8 @@ abbrev μ-loop : tie.MeasureT-loop
 loop-holds : tie.Need-loop-holds Inv-loop μ-loop
 loop-holds c = search filling-begins
 
-cast-mask-column : tie.Need-cast-mask-column Inv-loop μ-loop
-cast-mask-column c = omega arith
-
-add-mask-column : tie.Need-add-mask-column Inv-loop μ-loop
-add-mask-column c = omega arith
-
-mask-column-requires : tie.Need-mask-column-requires Inv-loop μ-loop
-mask-column-requires c κs = omega arith
-
-mul-out : tie.Need-mul-out Inv-loop μ-loop
-mul-out c = omega arith
-
 slice-write-out : tie.Need-slice-write-out Inv-loop μ-loop
 slice-write-out c = omega (arith, c .before .before .loop .inv .room)
-
-add-k : tie.Need-add-k Inv-loop μ-loop
-add-k c = omega arith
-
-loop-less : tie.Need-loop-less Inv-loop μ-loop
-loop-less c = omega arith
 
 loop-again : tie.Need-loop-again Inv-loop μ-loop
 loop-again c = search filling-turns
@@ -47,18 +29,6 @@ returns c = search filling-ends
 
 pub of-mask-spec : {M : Type 1} → statement M
 of-mask-spec =
-    tie.close
-    (tie.spec
-    Inv-loop
-    μ-loop
-    loop-holds
-    cast-mask-column
-    add-mask-column
-    mask-column-requires
-    mul-out
-    slice-write-out
-    add-k
-    loop-less
-    loop-again
-    same-length
-    returns)
+    tie.close (tie.spec
+    Inv-loop μ-loop loop-holds (λ c. omega arith) (λ c. omega arith) (λ c κs. omega arith) (λ c. omega arith) slice-write-out
+    (λ c. omega arith) (λ c. omega arith) loop-again same-length returns)

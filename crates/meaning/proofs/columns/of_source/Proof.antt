@@ -14,26 +14,8 @@ abbrev μ-loop : tie.MeasureT-loop
 loop-holds : tie.Need-loop-holds Inv-loop μ-loop
 loop-holds c = search filling-begins
 
-cast-source-column : tie.Need-cast-source-column Inv-loop μ-loop
-cast-source-column c = omega arith
-
-add-source-column : tie.Need-add-source-column Inv-loop μ-loop
-add-source-column c = omega arith
-
-source-column-requires : tie.Need-source-column-requires Inv-loop μ-loop
-source-column-requires c κs = omega arith
-
-mul-out : tie.Need-mul-out Inv-loop μ-loop
-mul-out c = omega arith
-
 slice-write-out : tie.Need-slice-write-out Inv-loop μ-loop
 slice-write-out c = omega (arith, c .before .before .loop .inv .room)
-
-add-k : tie.Need-add-k Inv-loop μ-loop
-add-k c = omega arith
-
-loop-less : tie.Need-loop-less Inv-loop μ-loop
-loop-less c = omega arith
 
 loop-again : tie.Need-loop-again Inv-loop μ-loop
 loop-again c = search filling-turns
@@ -46,18 +28,6 @@ returns c = search filling-ends
 
 pub of-source-spec : {M : Type 1} → statement M
 of-source-spec =
-    tie.close
-    (tie.spec
-    Inv-loop
-    μ-loop
-    loop-holds
-    cast-source-column
-    add-source-column
-    source-column-requires
-    mul-out
-    slice-write-out
-    add-k
-    loop-less
-    loop-again
-    same-length
-    returns)
+    tie.close (tie.spec
+    Inv-loop μ-loop loop-holds (λ c. omega arith) (λ c. omega arith) (λ c κs. omega arith) (λ c. omega arith) slice-write-out
+    (λ c. omega arith) (λ c. omega arith) loop-again same-length returns)

@@ -17,12 +17,6 @@ loop-holds c = search filling-begins
 slice-write-out : tie.Need-slice-write-out Inv-loop μ-loop
 slice-write-out c = omega (arith, c .before .loop .inv .room)
 
-add-k : tie.Need-add-k Inv-loop μ-loop
-add-k c = omega arith
-
-loop-less : tie.Need-loop-less Inv-loop μ-loop
-loop-less c = omega arith
-
 loop-again : tie.Need-loop-again Inv-loop μ-loop
 loop-again c = search (filling-turns, refl)
 
@@ -34,14 +28,5 @@ returns c = search filling-ends
 
 pub clear-bits-spec : {M : Type 1} → statement M
 clear-bits-spec =
-    tie.close
-    (tie.spec
-    Inv-loop
-    μ-loop
-    loop-holds
-    slice-write-out
-    add-k
-    loop-less
-    loop-again
-    same-length
-    returns)
+    tie.close (tie.spec
+    Inv-loop μ-loop loop-holds slice-write-out (λ c. omega arith) (λ c. omega arith) loop-again same-length returns)

@@ -5,35 +5,11 @@ use borrow.Author.Needs.{needs}
 use Rattle.replay.proofs.head.records.Statement.{statement}
 use Rattle.replay.proofs.head.records.Tie as tie
 
-faulty-requires : tie.Need-faulty-requires
-faulty-requires c κs = search needs
-
-returns : tie.Need-returns
-returns c = search needs
-
-slice-relend-prefix-all : tie.Need-slice-relend-prefix-all
-slice-relend-prefix-all c = search needs
-
 slice-aggregate-all : tie.Need-slice-aggregate-all
 slice-aggregate-all c = sym (length-take-le _ _ (omega arith))
 
-all-requires : tie.Need-all-requires
-all-requires c κs = search needs
-
-same-length : tie.Need-same-length
-same-length c = search needs
-
-returns-2 : tie.Need-returns-2
-returns-2 c = search needs
-
 pub records-spec : {M : Type 1} → statement M
 records-spec =
-    tie.close
-    (tie.spec
-    faulty-requires
-    returns
-    slice-relend-prefix-all
-    slice-aggregate-all
-    all-requires
-    same-length
-    returns-2)
+    tie.close (tie.spec
+    (λ c κs. search needs) (λ c. search needs) (λ c. search needs) slice-aggregate-all (λ c κs. search needs)
+    (λ c. search needs) (λ c. search needs))

@@ -22,21 +22,9 @@ loop-holds : tie.Need-loop-holds Inv-loop μ-loop
 loop-holds c = (omega arith, filled-none _ _)
 
 -- src/fill.rt:22:16
-byte-requires : tie.Need-byte-requires Inv-loop μ-loop
-byte-requires c κs = omega arith
-
 -- src/fill.rt:22:9
-slice-write-s : tie.Need-slice-write-s Inv-loop μ-loop
-slice-write-s c = omega arith
-
 -- src/fill.rt:23:9
-add-k : tie.Need-add-k Inv-loop μ-loop
-add-k c = omega arith
-
 -- src/fill.rt:21:5
-loop-less : tie.Need-loop-less Inv-loop μ-loop
-loop-less c = omega arith
-
 -- src/fill.rt:21:5
 loop-again : tie.Need-loop-again Inv-loop μ-loop
 loop-again c = (omega arith, filled-more _ _ _ _ _ (c .before .loop-test .taken) (c .before .before .loop .inv .1) (c .byte .ensures))
@@ -51,15 +39,6 @@ returns c = filled-all _ _ _ _ refl (filled-to (omega arith) (c .before .loop .i
 
 pub all-spec : {M : Type 1} → statement M
 all-spec =
-    tie.close
-    (tie.spec
-    Inv-loop
-    μ-loop
-    loop-holds
-    byte-requires
-    slice-write-s
-    add-k
-    loop-less
-    loop-again
-    same-length
-    returns)
+    tie.close (tie.spec
+    Inv-loop μ-loop loop-holds (λ c κs. omega arith) (λ c. omega arith) (λ c. omega arith) (λ c. omega arith) loop-again
+    same-length returns)

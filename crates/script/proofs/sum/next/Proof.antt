@@ -14,17 +14,11 @@ small : (c : tie.Start) → bitXor (c .args .h) (c .args .b) < 2 ^ 64
 small c = xor-lt 64 (c .args .h) (c .args .b) (omega arith) (omega arith)
 
 -- src/sum.rt:13:15
-mul-low : tie.Need-mul-low
-mul-low c = search needs
-
 -- src/sum.rt:14:17
 mul-high : tie.Need-mul-high
 mul-high c = omega (arith, small c)
 
 -- src/sum.rt:14:31
-mul-high-2 : tie.Need-mul-high-2
-mul-high-2 c = search needs
-
 -- src/sum.rt:14:17
 add-high : tie.Need-add-high
 add-high c = omega (arith, small c)
@@ -34,13 +28,7 @@ add-high-2 : tie.Need-add-high-2
 add-high-2 c = omega (arith, small c)
 
 -- src/sum.rt:15:5
-mul-result : tie.Need-mul-result
-mul-result c = search needs
-
 -- src/sum.rt:15:5
-add-result : tie.Need-add-result
-add-result c = search needs
-
 -- src/sum.rt:7:1
 returns : tie.Need-returns
 unfolding step
@@ -48,5 +36,5 @@ returns c = product _
 
 pub next-spec : {M : Type 1} → statement M
 next-spec =
-    tie.close
-    (tie.spec mul-low mul-high mul-high-2 add-high add-high-2 mul-result add-result returns)
+    tie.close (tie.spec
+    (λ c. search needs) mul-high (λ c. search needs) add-high add-high-2 (λ c. search needs) (λ c. search needs) returns)

@@ -22,21 +22,9 @@ loop-holds : tie.Need-loop-holds Inv-loop μ-loop
 loop-holds c = (omega arith, refl)
 
 -- src/sum.rt:35:21
-shared-slice-read-next : tie.Need-shared-slice-read-next Inv-loop μ-loop
-shared-slice-read-next c = omega arith
-
 -- src/sum.rt:35:9
-next-requires : tie.Need-next-requires Inv-loop μ-loop
-next-requires c κs = search needs
-
 -- src/sum.rt:36:9
-add-k : tie.Need-add-k Inv-loop μ-loop
-add-k c = omega arith
-
 -- src/sum.rt:34:5
-loop-less : tie.Need-loop-less Inv-loop μ-loop
-loop-less c = omega arith
-
 -- src/sum.rt:34:5
 loop-again : tie.Need-loop-again Inv-loop μ-loop
 loop-again c =
@@ -48,14 +36,6 @@ returns c = sym (byte-end _ _ _ (c .loop-test .left)) ∙ c .before .loop .inv .
 
 pub of-bytes-spec : {M : Type 1} → statement M
 of-bytes-spec =
-    tie.close
-    (tie.spec
-    Inv-loop
-    μ-loop
-    loop-holds
-    shared-slice-read-next
-    next-requires
-    add-k
-    loop-less
-    loop-again
+    tie.close (tie.spec
+    Inv-loop μ-loop loop-holds (λ c. omega arith) (λ c κs. search needs) (λ c. omega arith) (λ c. omega arith) loop-again
     returns)

@@ -22,25 +22,10 @@ loop-holds : tie.Need-loop-holds Inv-loop μ-loop
 loop-holds c = (omega arith, refl)
 
 -- src/sum.rt:48:26
-mul-next-word : tie.Need-mul-next-word Inv-loop μ-loop
-mul-next-word c = omega arith
-
 -- src/sum.rt:48:26
-shared-slice-read-next-word : tie.Need-shared-slice-read-next-word Inv-loop μ-loop
-shared-slice-read-next-word c = omega arith
-
 -- src/sum.rt:48:9
-next-word-requires : tie.Need-next-word-requires Inv-loop μ-loop
-next-word-requires c κs = search needs
-
 -- src/sum.rt:49:9
-add-k : tie.Need-add-k Inv-loop μ-loop
-add-k c = omega arith
-
 -- src/sum.rt:47:5
-loop-less : tie.Need-loop-less Inv-loop μ-loop
-loop-less c = omega arith
-
 -- src/sum.rt:47:5
 loop-again : tie.Need-loop-again Inv-loop μ-loop
 loop-again c =
@@ -52,15 +37,6 @@ returns c = sym (word-end _ _ _ (c .loop-test .left)) ∙ c .before .loop .inv .
 
 pub of-words-spec : {M : Type 1} → statement M
 of-words-spec =
-    tie.close
-    (tie.spec
-    Inv-loop
-    μ-loop
-    loop-holds
-    mul-next-word
-    shared-slice-read-next-word
-    next-word-requires
-    add-k
-    loop-less
-    loop-again
-    returns)
+    tie.close (tie.spec
+    Inv-loop μ-loop loop-holds (λ c. omega arith) (λ c. omega arith) (λ c κs. search needs) (λ c. omega arith)
+    (λ c. omega arith) loop-again returns)

@@ -9,25 +9,13 @@ use Rattle.io.proofs.decimal.Reads as decimal-reads
 use Rattle.script.proofs.text.put.Reads as put-reads
 
 -- src/text.rt:27:9
-decimal-requires : tie.Need-decimal-requires
-decimal-requires c κs = search needs
-
 -- src/text.rt:28:17
-array-share-prefix-digits : tie.Need-array-share-prefix-digits
-array-share-prefix-digits c = search needs
-
 -- src/text.rt:28:17
-slice-aggregate-put : tie.Need-slice-aggregate-put
-slice-aggregate-put c = search needs
-
 -- src/text.rt:28:5
 put-requires : tie.Need-put-requires
 put-requires c κs = omega (arith, few (c .before .before .before .before .before .args .n) (c .before .before .decimal .result) (omega arith) (c .before .before .decimal .ensures .1 .0))
 
 -- src/text.rt:22:1
-same-length : tie.Need-same-length
-same-length c = search needs
-
 -- src/text.rt:22:1
 returns : tie.Need-returns
 returns c =
@@ -37,12 +25,4 @@ returns c =
     (c .before .before .put .ensures .0) (c .before .before .put .ensures .1)
 
 pub decimal-spec : {M : Type 1} → statement M
-decimal-spec =
-    tie.close
-    (tie.spec
-    decimal-requires
-    array-share-prefix-digits
-    slice-aggregate-put
-    put-requires
-    same-length
-    returns)
+decimal-spec = tie.close (tie.spec (λ c κs. search needs) (λ c. search needs) (λ c. search needs) put-requires (λ c. search needs) returns)

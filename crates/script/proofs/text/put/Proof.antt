@@ -21,25 +21,10 @@ loop-holds : tie.Need-loop-holds Inv-loop μ-loop
 loop-holds c = (omega arith, refl, paste-zero (c .args .to .now) (c .args .at) (c .args .s .now))
 
 -- src/text.rt:15:22
-shared-slice-read-to : tie.Need-shared-slice-read-to Inv-loop μ-loop
-shared-slice-read-to c = omega arith
-
 -- src/text.rt:15:12
-add-to : tie.Need-add-to Inv-loop μ-loop
-add-to c = omega arith
-
 -- src/text.rt:15:9
-slice-write-to : tie.Need-slice-write-to Inv-loop μ-loop
-slice-write-to c = omega arith
-
 -- src/text.rt:16:9
-add-k : tie.Need-add-k Inv-loop μ-loop
-add-k c = omega arith
-
 -- src/text.rt:14:5
-loop-less : tie.Need-loop-less Inv-loop μ-loop
-loop-less c = omega arith
-
 -- src/text.rt:14:5
 loop-again : tie.Need-loop-again Inv-loop μ-loop
 loop-again c =
@@ -58,9 +43,6 @@ loop-again c =
     )
 
 -- src/text.rt:18:5
-add-result : tie.Need-add-result Inv-loop μ-loop
-add-result c = omega arith
-
 -- src/text.rt:9:1
 same-length : tie.Need-same-length Inv-loop μ-loop
 same-length c = c .before .loop .inv .1
@@ -74,17 +56,6 @@ returns c =
 
 pub put-spec : {M : Type 1} → statement M
 put-spec =
-    tie.close
-    (tie.spec
-    Inv-loop
-    μ-loop
-    loop-holds
-    shared-slice-read-to
-    add-to
-    slice-write-to
-    add-k
-    loop-less
-    loop-again
-    add-result
-    same-length
-    returns)
+    tie.close (tie.spec
+    Inv-loop μ-loop loop-holds (λ c. omega arith) (λ c. omega arith) (λ c. omega arith) (λ c. omega arith) (λ c. omega arith)
+    loop-again (λ c. omega arith) same-length returns)
