@@ -1,3 +1,4 @@
+-- Each turn makes one call and leaves the rest of the list, so that after the last every answer is the definition's.
 use Prim.Native.Nat.{_-_}
 use native.Mathlib.Omega.{arith}
 use Rattle.history.proofs.LoopLaws.{Running, running-begins, running-stands, running-turns, running-memory, running-answers}

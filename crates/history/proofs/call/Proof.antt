@@ -1,3 +1,4 @@
+-- A call of the list is a play or an undo, and each is its own function's outcome.
 use Rattle.history.proofs.CallLaws.{play-inside, call-undo, call-play}
 use borrow.Author.Needs.{needs}
 use Rattle.history.proofs.call.Statement.{statement}

@@ -1,3 +1,4 @@
+-- By the tests: 4 bytes for an undo, and for a play as many as its record says, if they stand whole.
 use borrow.Author.Needs.{needs}
 use native.Mathlib.Omega.{arith}
 use Rattle.history.proofs.CallLaws.{length-short, length-undo, length-other, length-long, length-play}

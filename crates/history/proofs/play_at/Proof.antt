@@ -1,3 +1,4 @@
+-- The record's bytes stand behind the play's numbers, in the list.
 use Rattle.history.proofs.CallLaws.{play-read}
 use borrow.Author.Needs.{needs}
 use Rattle.history.proofs.play_at.Statement.{statement}

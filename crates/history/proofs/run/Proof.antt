@@ -1,3 +1,4 @@
+-- A list that is well formed is run call by call; else nothing is touched.
 use denote.Ref.{now}
 use native.Mathlib.Omega.{arith}
 use Rattle.history.specs.Lists.{Words32}

@@ -1,3 +1,4 @@
+-- The list is walked by its calls' lengths, and ends where the definition's walk ends.
 use mathlib.Core.Path.{_≡_, refl}
 use native.Mathlib.Omega.{arith}
 use borrow.Author.Needs.{needs}

@@ -1,3 +1,4 @@
+-- Each turn tests one record, and what is left decides as all did.
 use Prim.Native.Nat.{_-_}
 use native.Mathlib.Omega.{arith}
 use Rattle.journal.proofs.RestoreLaws.{Tested, tested-none, tested-column, tested-row, tested-one, tested-all}

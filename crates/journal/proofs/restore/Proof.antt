@@ -1,3 +1,4 @@
+-- Each turn restores the last record that is left, so that the first of a pixel's records comes last.
 use Prim.Native.Nat.{_+_, _*_, _<_}
 use lib.ListN.{length}
 use native.Mathlib.Omega.{arith}

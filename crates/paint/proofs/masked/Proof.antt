@@ -1,3 +1,4 @@
+-- Each turn saves the old pixel and writes the new one, by the mask's bit.
 use mathlib.Core.Bool.{cond}
 use Prim.Native.Nat.{ℕ, _-_}
 use native.Mathlib.Omega.{arith}

@@ -1,3 +1,4 @@
+-- By the test: the foreground at 1, the background at 0.
 use mathlib.Core.Path.{sym, _∙_}
 use borrow.Author.Tests.{eq-eqb, ne-eqb}
 use Rattle.words.proofs.ChoiceLaws.{cond-true, cond-false}

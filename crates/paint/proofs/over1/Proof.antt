@@ -1,3 +1,4 @@
+-- Each turn saves the old pixel and writes the new one.
 use Prim.Native.Nat.{ℕ, _-_}
 use native.Mathlib.Omega.{arith}
 use lib.ListN.{length, getD}

@@ -1,3 +1,4 @@
+-- Each rule has its own loop, and each loop paints by its rule.
 use Rattle.paint.proofs.TurnLaws.{drawn-by, saved-by}
 use borrow.Author.Needs.{needs}
 use Rattle.paint.proofs.row.Statement.{statement}

@@ -1,3 +1,4 @@
+-- The part is taken where the record says that it stands.
 use Rattle.judge.specs.Record.{bitsPart}
 use borrow.Author.Needs.{needs}
 use Rattle.picture.proofs.bits_part.Statement.{statement}

@@ -1,3 +1,4 @@
+-- An array built at one value is that value at every place.
 use Rattle.sample.proofs.PaletteLaws.{black-colours}
 use mathlib.Core.Path.{refl}
 use Rattle.picture.proofs.black.Statement.{statement}

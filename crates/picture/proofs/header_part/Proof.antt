@@ -1,3 +1,4 @@
+-- The part is taken where the record says that it stands.
 use Rattle.judge.specs.Record.{headerPart}
 use borrow.Author.Needs.{needs}
 use Rattle.picture.proofs.header_part.Statement.{statement}

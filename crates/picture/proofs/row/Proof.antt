@@ -1,3 +1,4 @@
+-- A row that is counted from the top lies in the bits part, which holds all rows.
 use Rattle.picture.proofs.RowLaws.{row-inside}
 use borrow.Author.Needs.{needs}
 use Rattle.picture.proofs.row.Statement.{statement}

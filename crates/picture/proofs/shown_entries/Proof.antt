@@ -1,3 +1,4 @@
+-- By the test: up to 8 bits all entries are shown, above none.
 use mathlib.Core.Path.{sym, _∙_}
 use native.Mathlib.Omega.{arith}
 use Prim.Native.Nat.{zero-le}

@@ -1,3 +1,4 @@
+-- The target's pixels and a closing record fit the journal, or 14 is answered; then rows and closing record are one run of records.
 use Rattle.player.proofs.PlayLaws.{pixels-few, play-full, play-drawn}
 use Rattle.lent.proofs.LimitLaws.{passed}
 use lib.ListN.{length}

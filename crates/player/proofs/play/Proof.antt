@@ -1,3 +1,4 @@
+-- The statuses are asked in their order, and each return is the definition's case.
 use denote.Ref.{now}
 use mathlib.Core.Path.{sym, _∙_}
 use Rattle.player.proofs.PlayLaws.{play-limits, play-refused, play-accepted}

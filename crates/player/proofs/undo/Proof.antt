@@ -1,3 +1,4 @@
+-- Every test of the top play is made before a pixel is restored, and each return is the definition's case.
 use mathlib.Core.Path.{sym, _∙_}
 use Rattle.player.proofs.UndoLaws.{undo-limits, undo-empty, last-inside, undo-unclosed, undo-long, named-inside, undo-off, surface-whole, undo-done}
 use borrow.Author.Needs.{needs}

@@ -1,3 +1,4 @@
+-- The corner is read as a signed number, and the rest is the mask's own function.
 use Rattle.pixel.specs.Place.{maskPixel}
 use lib.IntN.{ℤ}
 use mathlib.Core.Path.{ap, _∙_}

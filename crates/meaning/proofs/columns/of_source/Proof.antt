@@ -1,3 +1,4 @@
+-- Each turn fills one column of the source.
 use Rattle.meaning.proofs.FillingLaws.{Filling, filling-begins, filling-turns, filling-ends}
 use Rattle.meaning.specs.Sampling.{sourceColumn}
 use native.Mathlib.Omega.{arith}

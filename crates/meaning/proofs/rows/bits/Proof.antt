@@ -1,3 +1,4 @@
+-- Each turn fills one bit, which lies in the row's bytes.
 use Rattle.meaning.proofs.FillingLaws.{Filling, filling-begins, filling-turns, filling-ends}
 use Rattle.sample.specs.Stored.{stored1}
 use lib.ListN.{length, getD}

@@ -1,3 +1,4 @@
+-- Each turn fills one number with 0.
 use Rattle.meaning.proofs.FillingLaws.{Filling, filling-begins, filling-turns, filling-ends}
 use native.Mathlib.Omega.{arith}
 use Prim.Native.Nat.{_-_}

@@ -1,3 +1,4 @@
+-- Each turn tests one byte, and what is left decides as all did.
 use mathlib.Core.Path.{_≡_}
 use Prim.Native.Nat.{ℕ, _-_, _≤_, _<_}
 use native.Mathlib.Omega.{arith}

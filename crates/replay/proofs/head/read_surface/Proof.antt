@@ -1,3 +1,4 @@
+-- The sides are judged before so many pixels are read, and what is read stays in the buffer.
 use mathlib.Core.Path.{sym}
 use native.Mathlib.Omega.{arith}
 use lib.Seq.{length-take-le}

@@ -1,3 +1,4 @@
+-- No more bytes are lent than the journal has.
 use mathlib.Core.Path.{sym}
 use native.Mathlib.Omega.{arith}
 use lib.Seq.{length-take-le}

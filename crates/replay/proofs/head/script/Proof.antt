@@ -1,3 +1,4 @@
+-- What the head says is lent lies in the surface and the journal.
 use mathlib.Core.Path.{sym}
 use native.Mathlib.Omega.{arith}
 use lib.Seq.{length-take-le}

@@ -1,3 +1,4 @@
+-- Each turn reads one number, and the place stays in the buffer.
 use mathlib.Core.Path.{_≡_, refl}
 use Prim.Native.Nat.{_≤_, _-_}
 use native.Mathlib.Omega.{arith}

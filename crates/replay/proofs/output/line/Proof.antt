@@ -1,3 +1,4 @@
+-- Each turn puts one number, for which there is room.
 use mathlib.Core.Path.{_≡_, refl}
 use Prim.Native.Nat.{_≤_}
 use native.Mathlib.Omega.{arith}

@@ -1,3 +1,4 @@
+-- Each turn makes one call and leaves a state that the next can start from.
 use mathlib.Core.Path.{_≡_}
 use lib.ListN.{length}
 use borrow.Author.Needs.{needs}

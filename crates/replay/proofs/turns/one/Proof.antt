@@ -1,3 +1,4 @@
+-- A call takes no more bytes than are in the buffer, and leaves what the next one is lent.
 use native.Mathlib.Omega.{arith}
 use Rattle.replay.proofs.InputLaws.{stays}
 use borrow.Author.Needs.{needs}

@@ -1,3 +1,4 @@
+-- Each turn fills one byte by the multiplier's rule.
 use mathlib.Core.Path.{_≡_, refl, sym, ap, _∙_}
 use Prim.Native.Nat.{ℕ, _+_, _≤_, _-_}
 use native.Mathlib.Omega.{arith}

@@ -1,3 +1,4 @@
+-- A product by 2^40 + 435 in two halves of 32 bits, so that nothing wraps.
 use Prim.Native.Nat.{_<_, _^_}
 use lib.Bits.{bitXor}
 use native.Mathlib.Omega.{arith}

@@ -1,3 +1,4 @@
+-- A number has at most 20 digits, and they are copied.
 use native.Mathlib.Omega.{arith}
 use Rattle.script.proofs.TextLaws.{few, printed}
 use borrow.Author.Needs.{needs}
