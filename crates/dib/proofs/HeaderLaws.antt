@@ -28,7 +28,9 @@ or-min a b c = first (ltb a c) refl
     first false e = second e (ltb b c) refl
 
 pub depth-bounds : (b : ℕ) → isDepth b ≡ true → (1 ≤ b) × (b ≤ 32)
-depth-bounds b h = on-depth (λ (b : ℕ). (1 ≤ b) × (b ≤ 32)) (lit≤ tt, lit≤ tt) (lit≤ tt, lit≤ tt) (lit≤ tt, lit≤ tt) (lit≤ tt, lit≤ tt) (lit≤ tt, lit≤ tt) (lit≤ tt, lit≤ tt) b h
+depth-bounds b h =
+    on-depth (λ (b : ℕ). (1 ≤ b) × (b ≤ 32)) (lit≤ tt, lit≤ tt) (lit≤ tt, lit≤ tt) (lit≤ tt, lit≤ tt) (lit≤ tt, lit≤ tt) (lit≤ tt, lit≤ tt)
+    (lit≤ tt, lit≤ tt) b h
 
 pub extent-bounds : (n : ℕ) → badExtent n ≡ false → (1 ≤ n) × (n ≤ 16384)
 extent-bounds n h = let p = or-none (ltb n 1) (ltb 16384 n) h in (ltb-false n 1 (p .0), ltb-false 16384 n (p .1))

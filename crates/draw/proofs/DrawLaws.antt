@@ -1,4 +1,4 @@
--- A row that is fetched and painted is drawn as the record's meaning says. Assumes nothing.
+-- A row that is fetched and painted is drawn as the record's meaning says, because its pixels and bits are the meaning's. Assumes nothing.
 use mathlib.Core.Path.{_≡_, refl, sym, ap, ap₂, _∙_, subst}
 use mathlib.Core.Bool.{Bool, true, false}
 use mathlib.Core.List.{List}
@@ -9,7 +9,6 @@ use lib.ListN.{length, getD, take}
 use lib.Seq.{sets, getD-take}
 use lib.IntN.{pos, _+ℤ_}
 use Rattle.words.specs.Bytes.{magnitude32, signed32}
-use Rattle.words.specs.Filled.{Filled}
 use Rattle.words.proofs.ChoiceLaws.{cond-false}
 use Rattle.pixel.specs.Place.{maskPixel}
 use Rattle.pixel.proofs.PlaceLaws.{remainder-lt}
@@ -27,7 +26,7 @@ use Rattle.paint.specs.declared.Rule.{Rule}
 use Rattle.paint.specs.Paints.{paintedBy, rowPaint}
 use Rattle.meaning.specs.Sampling.{sourceColumn, sourceShown, sourcePixel, maskShown, maskBit}
 use Rattle.meaning.specs.Meaning.{ruleOf, meaningIn, paintOn}
-use Rattle.meaning.specs.Rows.{InPicture}
+use Rattle.meaning.specs.Rows.{InPicture, SourceFilled, MaskFilled}
 use Rattle.meaning.proofs.FitLaws.{source-fits, column-inside}
 use Rattle.meaning.proofs.RowLaws.{fields-ok}
 use Rattle.draw.specs.Ready.{Lies, Mapped}
@@ -44,37 +43,42 @@ module _ (s : List ℕ) (rec : Record) where
   mask-absent a b row e = cond-false _ _ 0 e ∙ sym (cond-false _ _ 0 e)
 
   module _ (t : Target) (columns maskColumns : List ℕ) (m : Mapped rec t columns maskColumns) (j q : ℕ) (l : q < t .columns .count) where
-    source-at : sourceShown s rec (getD columns q 0) (sourceColumn (rec .source .y) (rec .«cy_src») (rec .cy) j) ≡ sourcePixel s rec (t .columns .index + q) j
+    -- the rows of source and mask that row j of the target reads
+    abbrev line : ℕ
+    line = sourceColumn (rec .source .y) (rec .«cy_src») (rec .cy) j
+
+    abbrev mask-line : ℕ
+    mask-line = maskPixel (signed32 (rec .mask .y)) j (rows (rec .mask .header))
+
+    source-at : sourceShown s rec (getD columns q 0) line ≡ sourcePixel s rec (t .columns .index + q) j
     unfolding sourcePixel
     source-at = go (rec .source .present) refl
       where
         go : (b : Bool) → rec .source .present ≡ b
-            → sourceShown s rec (getD columns q 0) (sourceColumn (rec .source .y) (rec .«cy_src») (rec .cy) j)
-            ≡ sourceShown s rec (sourceColumn (rec .source .x) (rec .«cx_src») (rec .cx) (t .columns .index + q)) (sourceColumn (rec .source .y) (rec .«cy_src») (rec .cy) j)
+            → sourceShown s rec (getD columns q 0) line
+            ≡ sourceShown s rec (sourceColumn (rec .source .x) (rec .«cx_src») (rec .cx) (t .columns .index + q)) line
         go false e = source-absent _ _ _ e
-        go true e = ap (λ (k : ℕ). sourceShown s rec k (sourceColumn (rec .source .y) (rec .«cy_src») (rec .cy) j)) (m .source e q l)
+        go true e = ap (λ (k : ℕ). sourceShown s rec k line) (m .source e q l)
 
-    mask-at : maskShown s rec (getD maskColumns q 0) (maskPixel (signed32 (rec .mask .y)) j (rows (rec .mask .header))) ≡ maskBit s rec (t .columns .index + q) j
+    mask-at : maskShown s rec (getD maskColumns q 0) mask-line ≡ maskBit s rec (t .columns .index + q) j
     unfolding maskBit
     mask-at = go (rec .mask .present) refl
       where
         go : (b : Bool) → rec .mask .present ≡ b
-            → maskShown s rec (getD maskColumns q 0) (maskPixel (signed32 (rec .mask .y)) j (rows (rec .mask .header)))
-            ≡ maskShown s rec (maskPixel (signed32 (rec .mask .x)) (t .columns .index + q) (rec .mask .header .width)) (maskPixel (signed32 (rec .mask .y)) j (rows (rec .mask .header)))
+            → maskShown s rec (getD maskColumns q 0) mask-line
+            ≡ maskShown s rec (maskPixel (signed32 (rec .mask .x)) (t .columns .index + q) (rec .mask .header .width)) mask-line
         go false e = mask-absent _ _ _ e
-        go true e = ap (λ (k : ℕ). maskShown s rec k (maskPixel (signed32 (rec .mask .y)) j (rows (rec .mask .header)))) (m .mask e q l)
+        go true e = ap (λ (k : ℕ). maskShown s rec k mask-line) (m .mask e q l)
 
   module _ (t : Target) (columns maskColumns : List ℕ) (m : Mapped rec t columns maskColumns) (j : ℕ) where
     -- the front of the buffers that a row is fetched to
-    pub colours-are : (d₀ d : List ℕ)
-        → Filled (λ k. sourceShown s rec (getD columns k 0) (sourceColumn (rec .source .y) (rec .«cy_src») (rec .cy) j)) d₀ (length columns) d
+    pub colours-are : (d₀ d : List ℕ) → SourceFilled s rec j columns d₀ d
         → (q : ℕ) → q < t .columns .count → getD (take (length columns) d) q 0 ≡ sourcePixel s rec (t .columns .index + q) j
     colours-are d₀ d p q l =
         let i : q < length columns = omega (arith, m .as-many) in
         getD-take (length columns) d q 0 i ∙ p .front q i ∙ source-at t columns maskColumns m j q l
 
-    pub bits-are : (d₀ d : List ℕ)
-        → Filled (λ k. maskShown s rec (getD maskColumns k 0) (maskPixel (signed32 (rec .mask .y)) j (rows (rec .mask .header)))) d₀ (length maskColumns) d
+    pub bits-are : (d₀ d : List ℕ) → MaskFilled s rec j maskColumns d₀ d
         → (q : ℕ) → q < t .columns .count → getD (take (length columns) d) q 0 ≡ maskBit s rec (t .columns .index + q) j
     bits-are d₀ d p q l =
         let i : q < length columns = omega (arith, m .as-many) in
@@ -96,7 +100,9 @@ module _ {len : ℕ} (rec : Record) (g : Good len rec) (t : Target) (columns mas
   columns-inside l a k i =
       let f = source-fits rec g a in
       let q : k < t .columns .count = omega (arith, m .as-many) in
-      omega (arith, m .source a k q, column-inside (rec .source .x) (rec .«cx_src») (rec .cx) (t .columns .index + k) (rec .source .header .width) (omega arith) (f .cx .0) (f .columns .1))
+      let w : ℕ = rec .source .header .width in
+      let p = column-inside (rec .source .x) (rec .«cx_src») (rec .cx) (t .columns .index + k) w (omega arith) (f .cx .0) (f .columns .1) in
+      omega (arith, m .source a k q, p)
 
   pub mask-columns-inside : rec .mask .present ≡ true → InPicture (rec .mask .header .width) maskColumns
   unfolding maskPixel

@@ -1,15 +1,12 @@
 -- What the rows of a clipped target are drawn from is there: the target lies on the surface, and its columns are mapped. Assumes nothing.
 use mathlib.Core.Path.{_≡_, sym, ap, _∙_, subst}
-use mathlib.Core.Bool.{true, cond}
 use mathlib.Core.List.{List, []}
 use Prim.Native.Nat.{ℕ, _+_, _≤_, _<_}
 use native.Mathlib.Omega.{arith}
 use lib.ListN.{length, take}
 use lib.Seq.{sets, getD-take, length-take-le}
-use Rattle.words.specs.Bytes.{magnitude32, signed32}
-use Rattle.words.specs.Filled.{Filled}
+use Rattle.words.specs.Bytes.{magnitude32}
 use Rattle.words.proofs.FillLaws.{filled-front}
-use Rattle.pixel.specs.Place.{maskPixel}
 use Rattle.judge.specs.declared.Record.{Record}
 use Rattle.region.specs.declared.Target.{Target}
 use Rattle.region.specs.declared.Rectangle.{Rectangle}
@@ -17,8 +14,7 @@ use Rattle.region.specs.Target.{Place, block, placesIn, targetOf}
 use Rattle.region.proofs.TargetLaws.{On, inside, Numbered, numbered, block-none}
 use Rattle.journal.specs.Drawing.{Paint, drawn}
 use Rattle.journal.specs.Records.{bytesOf, saved}
-use Rattle.meaning.specs.Sampling.{sourceColumn}
-use Rattle.draw.specs.Ready.{Lies, Mapped}
+use Rattle.draw.specs.Ready.{SourceColumns, MaskColumns, Lies, Mapped}
 
 -- a target without columns draws nothing
 module _ (w : ℕ) (f : Paint) (t : Target) (e : t .columns .count ≡ 0) (s : List ℕ) where
@@ -51,8 +47,7 @@ target-lies w h clip n t e l z =
 
 -- the buffers of columns, as they are filled
 module _ (rec : Record) (t : Target) (d₀ e₀ d e : List ℕ) (a : t .columns .count ≤ length d₀) (b : t .columns .count ≤ length e₀) where
-  pub mapped : Filled (λ k. sourceColumn (rec .source .x) (rec .«cx_src») (rec .cx) (t .columns .index + k)) d₀ (cond (rec .source .present) (t .columns .count) 0) d
-      → Filled (λ k. maskPixel (signed32 (rec .mask .x)) (t .columns .index + k) (rec .mask .header .width)) e₀ (cond (rec .mask .present) (t .columns .count) 0) e
+  pub mapped : SourceColumns rec (t .columns .index) (t .columns .count) d₀ d → MaskColumns rec (t .columns .index) (t .columns .count) e₀ e
       → Mapped rec t (take (t .columns .count) d) (take (t .columns .count) e)
   mapped f g = record {
     as-many = length-take-le (t .columns .count) d (omega (arith, f .long));

@@ -1,21 +1,14 @@
 // Drawing an accepted record. What the record decides is decided before the first row; then each row fetches its source pixels
 // and mask bits, and one loop saves the old pixels and writes the new ones. The buffers hold one row.
 ghost use mathlib.Core.Path.{_≡_};
-ghost use mathlib.Core.Bool.{cond};
-ghost use Prim.Native.Nat.{_+_, _*_, _≤_};
+ghost use Prim.Native.Nat.{_+_, _≤_};
 ghost use lib.ListN.{length};
-ghost use lib.Seq.{sets};
-ghost use Rattle.words.specs.Bytes.{magnitude32, signed32};
-ghost use Rattle.words.specs.Filled.{Filled};
-ghost use Rattle.pixel.specs.Place.{maskPixel};
+ghost use Rattle.words.specs.Bytes.{magnitude32};
 ghost use Rattle.judge.specs.Good.{Good};
-ghost use Rattle.region.specs.Target.{placesIn, targetOf};
-ghost use Rattle.journal.specs.Drawing.{drawn};
-ghost use Rattle.journal.specs.Records.{stride, bytesOf, saved};
-ghost use Rattle.meaning.specs.Sampling.{sourceColumn};
+ghost use Rattle.region.specs.Target.{targetOf};
 ghost use Rattle.meaning.specs.Rows.{SourceRow, MaskRow};
-ghost use Rattle.meaning.specs.Meaning.{meaningIn, paintOn};
-ghost use Rattle.draw.specs.Ready.{Lies, Mapped, Room};
+ghost use Rattle.meaning.specs.Meaning.{meaningIn};
+ghost use Rattle.draw.specs.Ready.{SourceColumns, MaskColumns, drawnOn, savedIn, Lies, Mapped, Room};
 use dib::Masks;
 use judge::Record;
 use region::Rectangle;
@@ -27,7 +20,7 @@ const MOST: usize = 4096;
 // The columns of the source that the target's columns from `index` on read; none is written where there is no source.
 fn fill_source_columns(s: &[u8], r: Record, index: u32, out: &mut [u32], count: usize)
     requires { ⌜ Good (length (now s)) r × (count ≤ length (now out)) × (index + count ≤ magnitude32 (r .cx)) ⌝ }
-    ensures { λ _. ⌜ Filled (λ k. sourceColumn (r .source .x) (r .«cx_src») (r .cx) (index + k)) (now (out .entry)) (cond (r .source .present) count 0) (now (out .exit)) ⌝ }
+    ensures { λ _. ⌜ SourceColumns r index count (now (out .entry)) (now (out .exit)) ⌝ }
 {
     let p = r.source;
     if p.present {
@@ -38,7 +31,7 @@ fn fill_source_columns(s: &[u8], r: Record, index: u32, out: &mut [u32], count: 
 // The columns of the mask, alike.
 fn fill_mask_columns(s: &[u8], r: Record, index: u32, out: &mut [u32], count: usize)
     requires { ⌜ Good (length (now s)) r × (count ≤ length (now out)) × (index + count ≤ magnitude32 (r .cx)) ⌝ }
-    ensures { λ _. ⌜ Filled (λ k. maskPixel (signed32 (r .mask .x)) (index + k) (r .mask .header .width)) (now (out .entry)) (cond (r .mask .present) count 0) (now (out .exit)) ⌝ }
+    ensures { λ _. ⌜ MaskColumns r index count (now (out .entry)) (now (out .exit)) ⌝ }
 {
     let p = r.mask;
     if p.present {
@@ -67,8 +60,8 @@ fn rows(
     requires { ⌜ MaskRow (now s) r (now «mask_columns») ⌝ }
     requires { ⌜ Lies width height r t × Mapped r t (now «source_columns») (now «mask_columns») ⌝ }
     requires { ⌜ Room width height t at (now surface) (now journal) ⌝ }
-    ensures { λ _. ⌜ now (surface .exit) ≡ drawn width (paintOn t (meaningIn (now (s .entry)) r) brush) (placesIn t) (now (surface .entry)) ⌝ }
-    ensures { λ _. ⌜ now (journal .exit) ≡ sets (now (journal .entry)) (at * stride) (bytesOf (saved width (paintOn t (meaningIn (now (s .entry)) r) brush) (placesIn t) (now (surface .entry)))) ⌝ }
+    ensures { λ _. ⌜ now (surface .exit) ≡ drawnOn width t (meaningIn (now (s .entry)) r) brush (now (surface .entry)) ⌝ }
+    ensures { λ _. ⌜ now (journal .exit) ≡ savedIn width t (meaningIn (now (s .entry)) r) brush at (now (surface .entry)) (now (journal .entry)) ⌝ }
 {
     let action = r.action;
     let rule = meaning::rule(action, brush);
@@ -123,8 +116,8 @@ pub fn clipped(
 )
     requires { ⌜ Good (length (now s)) r × (t ≡ targetOf width height clip (r .bounds) (r .x) (r .y) (r .cx) (r .cy)) ⌝ }
     requires { ⌜ (width ≤ 4096) × Room width height t at (now surface) (now journal) ⌝ }
-    ensures { λ _. ⌜ now (surface .exit) ≡ drawn width (paintOn t (meaningIn (now (s .entry)) r) brush) (placesIn t) (now (surface .entry)) ⌝ }
-    ensures { λ _. ⌜ now (journal .exit) ≡ sets (now (journal .entry)) (at * stride) (bytesOf (saved width (paintOn t (meaningIn (now (s .entry)) r) brush) (placesIn t) (now (surface .entry)))) ⌝ }
+    ensures { λ _. ⌜ now (surface .exit) ≡ drawnOn width t (meaningIn (now (s .entry)) r) brush (now (surface .entry)) ⌝ }
+    ensures { λ _. ⌜ now (journal .exit) ≡ savedIn width t (meaningIn (now (s .entry)) r) brush at (now (surface .entry)) (now (journal .entry)) ⌝ }
 {
     if t.columns.count == 0 {
         return;

@@ -10,7 +10,8 @@ use lib.ListN.{length, getD, set}
 use borrow.Author.Tests.{eqb-true}
 use Rattle.words.specs.Filled.{Filled}
 use Rattle.words.proofs.ChoiceLaws.{and-both}
-use Rattle.words.proofs.FillLaws.{filled-none, filled-more, filled-to}
+use Rattle.words.proofs.FillLaws.{filled-by}
+use Rattle.words.proofs.FillingLaws.{Filling, filling-begins, filling-turns, filling-ends}
 use Rattle.pixel.specs.Place.{isDepth}
 use Rattle.pixel.proofs.PlaceLaws.{on-depth}
 use Rattle.dib.specs.declared.Masks.{Masks}
@@ -21,26 +22,22 @@ use Rattle.fetch.specs.Fetched.{fetched, Fetches, InRow, Readable, byteM
 -- ---- the loop
 
 -- the first i columns are fetched
-pub record Fetching (bits : ℕ) (palette : List ℕ) (m : Masks) (line columns out₀ : List ℕ) (i : ℕ) (out : List ℕ) : Type 0 where
-  pub below : i ≤ length columns
-  pub room : length columns ≤ length out
-  pub filled : Filled (fetched bits palette m line columns) out₀ i out
+abbrev pub Fetching : (bits : ℕ) (palette : List ℕ) → Masks → (line columns out₀ : List ℕ) (i : ℕ) (out : List ℕ) → Type 0
+Fetching bits palette m line columns out₀ i out = Filling (fetched bits palette m line columns) (length columns) out₀ i out
 
 module _ (bits : ℕ) (palette : List ℕ) (m : Masks) (line columns out₀ : List ℕ) where
   pub fetch-begins : InRow bits line columns out₀ → Fetching bits palette m line columns out₀ 0 out₀
-  fetch-begins r = record { below = omega arith; room = r .long; filled = filled-none _ out₀ }
+  fetch-begins r = filling-begins _ _ out₀ (r .long)
 
   module _ (i : ℕ) (out : List ℕ) (f : Fetching bits palette m line columns out₀ i out) where
     -- the pixel v of the number n that is stored at the column
     pub fetch-turns : (column n v : ℕ) → i < length columns → column ≡ getD columns i 0 → n ≡ stored bits line column → v ≡ shown bits palette m n
         → Fetching bits palette m line columns out₀ (i + 1) (set out i v)
     unfolding fetched
-    fetch-turns column n v h a b e =
-        let q = filled-more _ out₀ i out v (omega (arith, f .room)) (f .filled) (cc) in
-        record { below = omega arith; room = omega (arith, f .room, f .filled .long, q .long); filled = q }
+    fetch-turns column n v h a b e = filling-turns _ _ out₀ i out v f h (cc)
 
     pub fetch-ends : length columns ≤ i → Fetches bits palette m line columns out₀ out
-    fetch-ends h = filled-to (omega (arith, f .below)) (f .filled)
+    fetch-ends h = filling-ends _ _ out₀ i out f h
 
 -- a column's pixel lies in the row's bytes
 module _ (line columns out : List ℕ) (i column : ℕ) (h : i < length columns) (e : column ≡ getD columns i 0) where
@@ -71,10 +68,6 @@ pub last-depth : (b : ℕ) → isDepth b ≡ true → b ≢ 1 → b ≢ 4 → b 
 last-depth b h n1 n4 n8 n16 n24 =
     on-depth (λ (d : ℕ). b ≡ d → b ≡ 32) (λ e. absurd (n1 e)) (λ e. absurd (n4 e)) (λ e. absurd (n8 e)) (λ e. absurd (n16 e))
     (λ e. absurd (n24 e)) (λ e. e) b h refl
-
--- one rule for another that agrees with it
-pub filled-by : (f g : ℕ → ℕ) (n : ℕ) (d₀ d : List ℕ) → ((k : ℕ) → k < n → f k ≡ g k) → Filled f d₀ n d → Filled g d₀ n d
-filled-by f g n d₀ d e p = record { long = p .long; front = λ k h. p .front k h ∙ e k h; back = p .back }
 
 module _ (bits b : ℕ) (e : bits ≡ b) where
   pub in-row : (line columns out : List ℕ) → InRow bits line columns out → InRow b line columns out

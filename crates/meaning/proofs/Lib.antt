@@ -1,4 +1,3 @@
-pub mod FillingLaws
 pub mod ColumnLaws
 pub mod FitLaws
 pub mod RowLaws

@@ -9,6 +9,7 @@ use lib.IntN.{pos, _+ℤ_}
 use lib.ListN.{length, getD}
 use Rattle.words.specs.Bytes.{signed32}
 use Rattle.words.specs.Filled.{Filled}
+use Rattle.words.proofs.FillLaws.{filled-by}
 use Rattle.words.proofs.ChoiceLaws.{cond-true, cond-false}
 use Rattle.pixel.specs.Place.{rowLength, remainder, maskPixel}
 use Rattle.pixel.proofs.PlaceLaws.{remainder-lt}
@@ -32,10 +33,6 @@ use Rattle.fetch.proofs.ReadableLaws.{readable}
 use Rattle.meaning.specs.Sampling.{isFormat1, sourceColumn, sourceShown, maskShown}
 use Rattle.meaning.specs.Rows.{InPicture}
 
--- one rule for another that agrees with it
-pub filled-by : (f g : ℕ → ℕ) (n : ℕ) (d₀ d : List ℕ) → ((k : ℕ) → k < n → f k ≡ g k) → Filled f d₀ n d → Filled g d₀ n d
-filled-by f g n d₀ d e p = record { long = p .long; front = λ k h. p .front k h ∙ e k h; back = p .back }
-
 -- ---- what a present picture is known for
 
 pub fields-ok : {len : ℕ} (p : Picture) → Fit len p → p .present ≡ true → badFields (p .header) ≡ false
@@ -57,7 +54,8 @@ stored-lt false n row h = omega arith
 pub line-reaches : (s : List ℕ) (p : Picture) (row : ℕ) (line columns : List ℕ) → Fit (length s) p → p .present ≡ true → row < rows (p .header)
     → line ≡ pictureRow s p row → InPicture (p .header .width) columns → InLine (p .header .bits) line columns
 line-reaches s p row line columns f t r e i k l =
-    column-in (p .header) (bitsPart s p) (rowLength (p .header .width) (p .header .bits)) (rows (p .header)) (storedRow (topDown (p .header)) (rows (p .header)) row) refl refl
+    let h : Header = p .header in
+    column-in h (bitsPart s p) (rowLength (h .width) (h .bits)) (rows h) (storedRow (topDown h) (rows h) row) refl refl
     (stored-lt (topDown (p .header)) (rows (p .header)) row r) (omega (arith, f .sound t .rows-ok, length-bits s p f)) line (getD columns k 0) e (i k l)
 
 module _ (s : List ℕ) (r : Record) where

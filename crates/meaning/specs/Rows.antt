@@ -4,17 +4,31 @@ use mathlib.Core.Bool.{true}
 use mathlib.Core.List.{List}
 use Prim.Native.Nat.{ℕ, _<_}
 use lib.ListN.{length, getD}
+use Rattle.words.specs.Bytes.{signed32}
+use Rattle.words.specs.Filled.{Filled}
+use Rattle.pixel.specs.Place.{maskPixel}
 use Rattle.dib.specs.declared.Masks.{Masks}
+use Rattle.dib.specs.Header.{rows}
 use Rattle.sample.specs.Colour.{masksIn}
 use Rattle.fetch.specs.Fetched.{Tables}
 use Rattle.judge.specs.declared.Record.{Record}
 use Rattle.judge.specs.Good.{Good}
 use Rattle.picture.specs.Palette.{picturePalette}
-use Rattle.meaning.specs.Sampling.{isFormat1}
+use Rattle.meaning.specs.Sampling.{isFormat1, sourceColumn, sourceShown, maskShown}
 
 -- every column lies in a picture so wide
 abbrev pub InPicture : (width : ℕ) (columns : List ℕ) → Type 0
 InPicture width columns = (k : ℕ) → k < length columns → getD columns k 0 < width
+
+-- the front of a buffer was filled with the source pixels of these columns, in the row that row j of the target reads
+abbrev pub SourceFilled : (s : List ℕ) → Record → (j : ℕ) (columns before after : List ℕ) → Type 0
+SourceFilled s r j columns before after =
+    Filled (λ k. sourceShown s r (getD columns k 0) (sourceColumn (r .source .y) (r .«cy_src») (r .cy) j)) before (length columns) after
+
+-- and with the mask bits
+abbrev pub MaskFilled : (s : List ℕ) → Record → (j : ℕ) (columns before after : List ℕ) → Type 0
+MaskFilled s r j columns before after =
+    Filled (λ k. maskShown s r (getD columns k 0) (maskPixel (signed32 (r .mask .y)) j (rows (r .mask .header)))) before (length columns) after
 
 pub record SourceRow (s : List ℕ) (r : Record) (m : Masks) (table palette columns : List ℕ) : Type 0 where
   pub good : Good (length s) r

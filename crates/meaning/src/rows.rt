@@ -2,13 +2,10 @@
 ghost use mathlib.Core.Path.{_≡_};
 ghost use Prim.Native.Nat.{ℕ, _*_, _≤_, _<_};
 ghost use lib.ListN.{length, getD};
-ghost use Rattle.words.specs.Bytes.{magnitude32, signed32};
+ghost use Rattle.words.specs.Bytes.{magnitude32};
 ghost use Rattle.words.specs.Filled.{Filled};
-ghost use Rattle.pixel.specs.Place.{maskPixel};
-ghost use Rattle.dib.specs.Header.{rows as rowsOf};
 ghost use Rattle.sample.specs.Stored.{stored1};
-ghost use Rattle.meaning.specs.Sampling.{sourceColumn, sourceShown, maskShown};
-ghost use Rattle.meaning.specs.Rows.{SourceRow, MaskRow};
+ghost use Rattle.meaning.specs.Rows.{SourceRow, SourceFilled, MaskRow, MaskFilled};
 use dib::Masks;
 use judge::Record;
 
@@ -60,7 +57,7 @@ pub fn of_source(
 )
     requires { ⌜ SourceRow (now s) r m (now t) (now palette) (now columns) ⌝ }
     requires { ⌜ (j < magnitude32 (r .cy)) × (length (now columns) ≤ length (now out)) ⌝ }
-    ensures { λ _. ⌜ Filled (λ k. sourceShown (now (s .entry)) r (getD (now (columns .entry)) k 0) (sourceColumn (r .source .y) (r .«cy_src») (r .cy) j)) (now (out .entry)) (length (now (columns .entry))) (now (out .exit)) ⌝ }
+    ensures { λ _. ⌜ SourceFilled (now (s .entry)) r j (now (columns .entry)) (now (out .entry)) (now (out .exit)) ⌝ }
 {
     let p = r.source;
     if p.present {
@@ -76,7 +73,7 @@ pub fn of_source(
 pub fn of_mask(s: &[u8], r: Record, columns: &[u32], j: u32, out: &mut [u8])
     requires { ⌜ MaskRow (now s) r (now columns) ⌝ }
     requires { ⌜ length (now columns) ≤ length (now out) ⌝ }
-    ensures { λ _. ⌜ Filled (λ k. maskShown (now (s .entry)) r (getD (now (columns .entry)) k 0) (maskPixel (signed32 (r .mask .y)) j (rowsOf (r .mask .header)))) (now (out .entry)) (length (now (columns .entry))) (now (out .exit)) ⌝ }
+    ensures { λ _. ⌜ MaskFilled (now (s .entry)) r j (now (columns .entry)) (now (out .entry)) (now (out .exit)) ⌝ }
 {
     let p = r.mask;
     if p.present {

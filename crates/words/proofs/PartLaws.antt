@@ -16,7 +16,8 @@ drop-most n [] = drop-nil (min n 0) ∙ sym (drop-nil n)
 drop-most zero (x ∷ l) = rw zero-min
 drop-most (suc n) (x ∷ l) = rw suc-min-suc (drop-most n l)
 
-pub part-most : (s : List ℕ) (at len : ℕ) {from count : ℕ} → from ≡ min at (length s) → count ≡ min len (length s - from) → take count (drop from s) ≡ take len (drop at s)
+pub part-most : (s : List ℕ) (at len : ℕ) {from count : ℕ} → from ≡ min at (length s) → count ≡ min len (length s - from)
+    → take count (drop from s) ≡ take len (drop at s)
 part-most s at len {from} {count} e f =
     ap (λ (n : ℕ). take n (drop from s)) (f ∙ ap (min len) (sym (length-drop from s))) ∙ take-most len (drop from s)
     ∙ ap (take len) (ap (λ (n : ℕ). drop n s) e ∙ drop-most at s)

@@ -47,7 +47,8 @@ array-share-prefix-source-columns c =
     let start = at-if .before .before .before .before .before in
     let a = start .args in
     let lies = target-lies _ _ (a .clip) (a .r) (a .t) (start .pre .0 .1) (start .pre .1 .0) (at-if .if1 .left) in
-    omega (arith, lies .columns, lies .wide, length-replicate {A = ℕ} 4096 0, c .before .before .before .before .before .before .before .before .fill-source-columns .ensures .long)
+    let long = c .before .before .before .before .before .before .before .before .fill-source-columns .ensures .long in
+    omega (arith, lies .columns, lies .wide, length-replicate {A = ℕ} 4096 0, long)
 
 slice-aggregate-rows : tie.Need-slice-aggregate-rows
 slice-aggregate-rows c =
@@ -64,7 +65,8 @@ array-share-prefix-mask-columns c =
     let start = at-if .before .before .before .before .before in
     let a = start .args in
     let lies = target-lies _ _ (a .clip) (a .r) (a .t) (start .pre .0 .1) (start .pre .1 .0) (at-if .if1 .left) in
-    omega (arith, lies .columns, lies .wide, length-replicate {A = ℕ} 4096 0, c .before .before .before .before .before .before .fill-mask-columns .ensures .long)
+    let long = c .before .before .before .before .before .before .fill-mask-columns .ensures .long in
+    omega (arith, lies .columns, lies .wide, length-replicate {A = ℕ} 4096 0, long)
 
 slice-aggregate-rows-2 : tie.Need-slice-aggregate-rows-2
 slice-aggregate-rows-2 c =

@@ -9,8 +9,9 @@ use Rattle.meaning.proofs.columns.mask_column.Tie as tie
 
 returns : tie.Need-returns
 returns c =
-    c .mask-pixel .ensures
-    ∙ ap (λ (z : ℤ). maskPixel z (c .before .before .args .i) (c .before .before .args .extent)) (toZ-ofZ (record { sfits = c .before .signed .ok }) ∙ c .before .signed .ensures)
+    let a = c .before .before .args in
+    let corner = toZ-ofZ (record { sfits = c .before .signed .ok }) ∙ c .before .signed .ensures in
+    c .mask-pixel .ensures ∙ ap (λ (z : ℤ). maskPixel z (a .i) (a .extent)) corner
 
 pub mask-column-spec : {M : Type 1} → statement M
 mask-column-spec = tie.close (tie.spec (λ c κs. search needs) (λ c κs. search needs) returns)

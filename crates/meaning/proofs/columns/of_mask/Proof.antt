@@ -1,5 +1,5 @@
 -- Each turn fills one column of the mask.
-use Rattle.meaning.proofs.FillingLaws.{Filling, filling-begins, filling-turns, filling-ends}
+use Rattle.words.proofs.FillingLaws.{Filling, filling-begins, filling-turns, filling-ends}
 use Rattle.pixel.specs.Place.{maskPixel}
 use Rattle.words.specs.Bytes.{signed32}
 use native.Mathlib.Omega.{arith}

@@ -1,5 +1,5 @@
 -- Each turn fills one column of the source.
-use Rattle.meaning.proofs.FillingLaws.{Filling, filling-begins, filling-turns, filling-ends}
+use Rattle.words.proofs.FillingLaws.{Filling, filling-begins, filling-turns, filling-ends}
 use Rattle.meaning.specs.Sampling.{sourceColumn}
 use native.Mathlib.Omega.{arith}
 use Prim.Native.Nat.{_+_, _-_}

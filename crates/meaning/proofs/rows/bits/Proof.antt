@@ -1,5 +1,5 @@
 -- Each turn fills one bit, which lies in the row's bytes.
-use Rattle.meaning.proofs.FillingLaws.{Filling, filling-begins, filling-turns, filling-ends}
+use Rattle.words.proofs.FillingLaws.{Filling, filling-begins, filling-turns, filling-ends}
 use Rattle.sample.specs.Stored.{stored1}
 use lib.ListN.{length, getD}
 use native.Mathlib.Omega.{arith}

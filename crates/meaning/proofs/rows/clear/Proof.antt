@@ -1,5 +1,5 @@
 -- Each turn fills one number with 0.
-use Rattle.meaning.proofs.FillingLaws.{Filling, filling-begins, filling-turns, filling-ends}
+use Rattle.words.proofs.FillingLaws.{Filling, filling-begins, filling-turns, filling-ends}
 use native.Mathlib.Omega.{arith}
 use Prim.Native.Nat.{_-_}
 use mathlib.Core.Path.{refl}

@@ -1,11 +1,11 @@
--- A loop that fills the front of a list by a rule. Assumes nothing.
+-- A loop that fills the front of a list by a rule: each turn fills one more. Assumes nothing.
 use mathlib.Core.Path.{_≡_}
 use mathlib.Core.List.{List}
 use Prim.Native.Nat.{ℕ, _+_, _≤_, _<_}
 use native.Mathlib.Omega.{arith}
 use lib.ListN.{length, set}
 use Rattle.words.specs.Filled.{Filled}
 use Rattle.words.proofs.FillLaws.{filled-none, filled-more, filled-to}
 
 -- the first i of n are filled
 pub record Filling (f : ℕ → ℕ) (n : ℕ) (d₀ : List ℕ) (i : ℕ) (d : List ℕ) : Type 0 where
