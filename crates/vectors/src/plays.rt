@@ -176,26 +176,25 @@ pub fn blends() {
 }
 
 // 0x4E on three columns. The mask is 8 wide and holds 00000101; xMask -3 makes column 0 read column 5 (document 01's check
-// number), so that columns 0 to 2 read 1, 0, 1.
-fn masked_record(r: &mut [u8], size: u32, field: u32)
-    requires { ⌜ 180 ≤ length (now r) ⌝ }
-{
-    begin(r, 0x4E, size);
-    words::store_u32(r, 32, 3);
-    words::store_u32(r, 36, 1);
-    words::store_u32(r, 40, field);
-    words::store_u32(r, 52, 0x3F800000);
-    words::store_u32(r, 64, 0x3F800000);
-    words::store_u32(r, 100, 0xFFFFFFFD);
-    parts(r, 112, 128, 48, 4);
-    header(r, 128, 8, 1);
-    words::store_u32(r, 176, 5);
+// number), so that columns 0 to 2 read 1, 0, 1. Behind the mask's bits is room for a source.
+fn masked_record(field: u32) -> [u8; 232] {
+    let mut r = [0u8; 232];
+    begin(&mut r, 0x4E, 232);
+    words::store_u32(&mut r, 32, 3);
+    words::store_u32(&mut r, 36, 1);
+    words::store_u32(&mut r, 40, field);
+    words::store_u32(&mut r, 52, 0x3F800000);
+    words::store_u32(&mut r, 64, 0x3F800000);
+    words::store_u32(&mut r, 100, 0xFFFFFFFD);
+    parts(&mut r, 112, 128, 48, 4);
+    header(&mut r, 128, 8, 1);
+    words::store_u32(&mut r, 176, 5);
+    r
 }
 
 // Without a source: the brush where the mask's bit is 1, the target kept where it is 0.
 pub fn masked() {
-    let mut r = [0u8; 180];
-    masked_record(&mut r, 180, 0xF0AA0000);
+    let r = masked_record(0xF0AA0000);
     let mut surface = [0xFF000000u32, 0x800000FFu32, 0x00FFFFFFu32];
     shown(
         b"0x4E, 0xF0 over 0xAA",
@@ -209,8 +208,7 @@ pub fn masked() {
 
 // Document 001's copy-or-keep, with a source of three 24-bit pixels, 0x0A0B0C, 0x010203 and 0x445566: copied where the mask's bit is 1.
 pub fn copied() {
-    let mut r = [0u8; 232];
-    masked_record(&mut r, 232, 0xCCAA0000);
+    let mut r = masked_record(0xCCAA0000);
     parts(&mut r, 84, 180, 40, 12);
     header(&mut r, 180, 3, 24);
     words::store_u32(&mut r, 220, 0x030A0B0C);
