@@ -1,4 +1,6 @@
--- The code's expression is the definition's.
+-- Each call answers its definition, and the code joins them as the definition does.
+use mathlib.Core.Bool.{_&&_, _||_}
+use Rattle.dib.specs.Header.{hasMasks}
 use Rattle.dib.specs.HeaderStatus.{badMasks}
 use Rattle.dib.proofs.HeaderLaws.{sound, depth-bounds}
 use borrow.Author.Needs.{needs}
@@ -11,7 +13,10 @@ bad-channels-requires c κs = let s = c .before in depth-bounds (s .args .h .bit
 
 returns : tie.Need-returns
 unfolding badMasks
-returns c = cc
+returns c =
+    let at-bad-channels = c .before in
+    let start = at-bad-channels .before .before in
+    λ t. hasMasks (start .args .h .compression) && (at-bad-channels .bad-channels .ensures t || c .bad-overlaps .ensures t)
 
 pub bad-masks-spec : {M : Type 1} → statement M
 bad-masks-spec = tie.close (tie.spec bad-channels-requires (λ c κs. search needs) returns)

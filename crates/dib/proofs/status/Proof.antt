@@ -1,5 +1,9 @@
 -- The code's expression is the definition's, once status 8 has left.
-use mathlib.Core.Path.{_≡_, _∙_, sym}
+use Prim.Native.Nat.{ℕ}
+use lib.Dec.{ltb}
+use Rattle.words.specs.Choice.{given}
+use Rattle.words.proofs.ChoiceLaws.{cond-false}
+use mathlib.Core.Path.{_≡_, _∙_, sym, ap}
 use mathlib.Core.Bool.{true, false}
 use Rattle.dib.specs.HeaderStatus.{badHeader, dibStatus}
 use Rattle.dib.proofs.HeaderLaws.{passed-fields}
@@ -23,9 +27,16 @@ bits-needed-requires c κs = passed-fields _ _ (sym (c .before .before .bad-head
 returns-2 : tie.Need-returns-2
 unfolding dibStatus
 returns-2 c =
-    let a = c .before .before .before .before .before .before .args in
-    let t : badHeader (a .len) (a .h) ≡ false = cc in
-    rw t (cc)
+    let at-given = c .before in
+    let at-bits-needed = at-given .before in
+    let at-bad-masks = at-bits-needed .before in
+    let at-if1 = at-bad-masks .before in
+    let at-bad-header = at-if1 .before in
+    let start = at-bad-header .before in
+    let a = start .args in
+    let t : badHeader (a .len) (a .h) ≡ false = sym (at-bad-header .bad-header .ensures) ∙ at-if1 .if1 .left in
+    let needed = at-given .given .ensures ∙ ap (λ (n : ℕ). given 10 (ltb (a .bits) n) 0) (at-bits-needed .bits-needed .ensures) in
+    c .given2 .ensures ∙ (λ u. given 9 (at-bad-masks .bad-masks .ensures u) (needed u)) ∙ sym (cond-false _ _ _ t)
 
 pub status-spec : {M : Type 1} → statement M
 status-spec =

@@ -1,4 +1,7 @@
--- The code's expression is the definition's.
+-- Each call answers its definition, and the code joins them as the definition does.
+use mathlib.Core.Path.{ap, _∙_}
+use mathlib.Core.Bool.{_&&_, _||_}
+use Rattle.judge.specs.Geometry.{badSource}
 use Rattle.judge.specs.Check.{badGeometry}
 use borrow.Author.Needs.{needs}
 use Rattle.judge.proofs.bad_geometry.Statement.{statement}
@@ -6,7 +9,17 @@ use Rattle.judge.proofs.bad_geometry.Tie as tie
 
 returns : tie.Need-returns
 unfolding badGeometry
-returns c = cc
+returns c =
+    let at-bad-corner = c .before in
+    let at-bad-source = at-bad-corner .before .before in
+    let at-bad-signs = at-bad-source .before in
+    let at-bad-target = at-bad-signs .before in
+    let at-magnitude = at-bad-target .before in
+    let start = at-magnitude .before .before .before .before in
+    let r = start .args .r in
+    let p = r .source in
+    let source = at-bad-source .bad-source .ensures ∙ ap (badSource (p .x) (p .y) (r .«cx_src») (r .«cy_src») (p .header .width)) (at-magnitude .magnitude .ensures) in
+    λ t. at-bad-target .bad-target .ensures t || at-bad-signs .bad-signs .ensures t || p .present && source t || r .mask .present && at-bad-corner .bad-corner .ensures t
 
 pub bad-geometry-spec : {M : Type 1} → statement M
 bad-geometry-spec =

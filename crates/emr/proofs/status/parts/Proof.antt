@@ -1,4 +1,7 @@
--- The code's expression is the definition's.
+-- Each call answers its definition, and the code joins them as the definition does.
+use mathlib.Core.Path.{_∙_}
+use mathlib.Core.Bool.{_||_}
+use Rattle.words.specs.Choice.{given}
 use Rattle.emr.specs.FrameStatus.{partsStatus}
 use borrow.Author.Needs.{needs}
 use Rattle.emr.proofs.status.parts.Statement.{statement}
@@ -6,7 +9,15 @@ use Rattle.emr.proofs.status.parts.Tie as tie
 
 returns : tie.Need-returns
 unfolding partsStatus
-returns c = cc
+returns c =
+    let at-given = c .before in
+    let at-bad-usage2 = at-given .before in
+    let at-bad-usage = at-bad-usage2 .before in
+    let at-bad-transform = at-bad-usage .before in
+    let at-bad-parts2 = at-bad-transform .before in
+    let at-bad-parts = at-bad-parts2 .before in
+    let unread = at-given .given .ensures ∙ (λ t. given 7 (at-bad-transform .bad-transform .ensures t || at-bad-usage .bad-usage .ensures t || at-bad-usage2 .bad-usage2 .ensures t) 0) in
+    c .given2 .ensures ∙ (λ t. given 6 (at-bad-parts .bad-parts .ensures t || at-bad-parts2 .bad-parts2 .ensures t) (unread t))
 
 pub parts-spec : {M : Type 1} → statement M
 parts-spec =

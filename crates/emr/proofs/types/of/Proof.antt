@@ -1,4 +1,6 @@
 -- The type that the code tests for is the table's, and so is its row.
+use mathlib.Core.Bool.{true, false}
+use Rattle.emr.specs.declared.Form.the-variants.{Blend, Rop4, Rop}
 use Rattle.emr.specs.Types.{alphaBlend, maskBlt, stretchDibits, rowOf}
 use Rattle.emr.proofs.TypeLaws.{row-at, row-unlisted}
 use borrow.Author.Needs.{needs}
@@ -7,19 +9,29 @@ use Rattle.emr.proofs.types.of.Tie as tie
 
 returns : tie.Need-returns
 unfolding rowOf
-returns c = row-at _ _ _ _ alphaBlend (c .before .if1 .taken) (cc)
+returns c =
+    let at-if1 = c .before in
+    row-at _ _ _ _ alphaBlend (at-if1 .if1 .taken) (λ t. record { at = c .fields-at .ensures t; form = Blend; signed = false })
 
 returns-2 : tie.Need-returns-2
 unfolding rowOf
-returns-2 c = row-at _ _ _ _ maskBlt (c .before .if2 .taken) (cc)
+returns-2 c =
+    let at-if2 = c .before in
+    row-at _ _ _ _ maskBlt (at-if2 .if2 .taken) (λ t. record { at = c .fields-at2 .ensures t; form = Rop4; signed = false })
 
 returns-3 : tie.Need-returns-3
 unfolding rowOf
-returns-3 c = row-at _ _ _ _ stretchDibits (c .before .if3 .taken) (cc)
+returns-3 c =
+    let at-if3 = c .before in
+    row-at _ _ _ _ stretchDibits (at-if3 .if3 .taken) (λ t. record { at = c .fields-at3 .ensures t; form = Rop; signed = true })
 
 returns-4 : tie.Need-returns-4
 unfolding rowOf
-returns-4 c = row-unlisted _ _ _ _ (c .before .before .before .if1 .left) (c .before .before .if2 .left) (c .before .if3 .left) (cc)
+returns-4 c =
+    let at-if3 = c .before in
+    let at-if2 = at-if3 .before in
+    let at-if1 = at-if2 .before in
+    row-unlisted _ _ _ _ (at-if1 .if1 .left) (at-if2 .if2 .left) (at-if3 .if3 .left) (λ t. record { at = c .fields-at4 .ensures t; form = Rop; signed = true })
 
 pub of-spec : {M : Type 1} → statement M
 of-spec =

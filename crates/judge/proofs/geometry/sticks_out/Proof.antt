@@ -1,10 +1,23 @@
--- The code's expression is the definition's.
+-- Each call answers its definition, and the code joins them as the definition does.
+use mathlib.Core.Path.{_∙_}
+use mathlib.Core.Bool.{cond, _||_}
+use Prim.Native.Nat.{_+_}
+use lib.Dec.{ltb}
 use borrow.Author.Needs.{needs}
 use Rattle.judge.proofs.geometry.sticks_out.Statement.{statement}
 use Rattle.judge.proofs.geometry.sticks_out.Tie as tie
 
 returns : tie.Need-returns
-returns c = cc
+returns c =
+    let at-is-negative2 = c .before in
+    let at-is-negative = at-is-negative2 .before in
+    let at-magnitude = at-is-negative .before in
+    let start = at-magnitude .before in
+    let a = start .args in
+    let beyond = c .choose .ensures
+        ∙ (λ t.
+          cond (at-is-negative2 .is-negative2 .ensures t) (ltb (a .x) (at-magnitude .magnitude .ensures t) || ltb (a .n) (a .x)) (ltb (a .n) (a .x + at-magnitude .magnitude .ensures t))) in
+    λ t. at-is-negative .is-negative .ensures t || beyond t
 
 pub sticks-out-spec : {M : Type 1} → statement M
 sticks-out-spec =
