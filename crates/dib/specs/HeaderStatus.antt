@@ -3,7 +3,7 @@ use Prim.Native.Nat.{ℕ, _+_, _*_, _^_}
 use mathlib.Core.Bool.{Bool, not, _&&_, _||_}
 use lib.Dec.{eqb, leb, ltb}
 use lib.Bits.{bitAnd}
-use Rattle.words.specs.Choice.{given}
+use Rattle.words.specs.Status.{given}
 use Rattle.pixel.specs.Masks.{isChannel}
 use Rattle.pixel.specs.Place.{isDepth, rowLength}
 use Rattle.dib.specs.declared.Masks.{Masks}

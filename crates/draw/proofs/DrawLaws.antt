@@ -28,7 +28,7 @@ use Rattle.meaning.specs.Sampling.{sourceColumn, sourceShown, sourcePixel, mask
 use Rattle.meaning.specs.Meaning.{ruleOf, meaningIn, paintOn}
 use Rattle.meaning.specs.Rows.{InPicture, SourceFilled, MaskFilled}
 use Rattle.meaning.proofs.FitLaws.{source-fits, column-inside}
-use Rattle.meaning.proofs.RowLaws.{fields-ok}
+use Rattle.meaning.proofs.FilledRowLaws.{fields-ok}
 use Rattle.draw.specs.Ready.{Lies, Mapped}
 
 -- ---- a row's source pixels and mask bits are those of the record's meaning

@@ -1,2 +1,2 @@
 pub mod DrawLaws
-pub mod TargetLaws
+pub mod ReadyLaws

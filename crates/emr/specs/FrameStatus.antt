@@ -5,7 +5,7 @@ use mathlib.Core.List.{List}
 use lib.ListN.{length}
 use lib.Dec.{eqb, ltb}
 use Rattle.words.specs.Bytes.{le32}
-use Rattle.words.specs.Choice.{given}
+use Rattle.words.specs.Status.{given}
 use Rattle.emr.specs.declared.Offsets.{Offsets}
 use Rattle.emr.specs.declared.PictureFields.{PictureFields}
 use Rattle.emr.specs.declared.Fields.{Fields}

@@ -7,7 +7,7 @@ use lib.Dec.{ltb}
 use lib.ListN.{length, take}
 use lib.Seq.{length-sets}
 use borrow.Author.Tests.{ltb-false}
-use Rattle.words.specs.Choice.{given}
+use Rattle.words.specs.Status.{given}
 use Rattle.words.proofs.ChoiceLaws.{given-none, orElse-none}
 use Rattle.journal.specs.Records.{stride, Entry, bytesOf}
 use Rattle.journal.proofs.RecordLaws.{length-bytes}

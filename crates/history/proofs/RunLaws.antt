@@ -10,7 +10,7 @@ use lib.Seq.{sets}
 use lib.Dec.{ltb}
 use borrow.Author.Tests.{lt-ltb, le-ltb}
 use Rattle.words.specs.Bytes.{le32}
-use Rattle.words.specs.Choice.{given, orElse}
+use Rattle.words.specs.Status.{given, orElse}
 use Rattle.lent.specs.Lent.{Lent, lent, limits, records}
 use Rattle.history.specs.Pile.{Answered, pile}
 use Rattle.history.specs.Lists.{answers, memory, Agree, Words32}

@@ -3,7 +3,7 @@
 use Prim.Native.Nat.{ℕ, zero, suc, _+_, _-_}
 use mathlib.Core.List.{List, [], _∷_}
 use lib.Dec.{ltb}
-use Rattle.words.specs.Choice.{given, orElse}
+use Rattle.words.specs.Status.{given, orElse}
 use Rattle.judge.specs.Check.{statusOf}
 use Rattle.lent.specs.Playing.{counted, drawnBy}
 use Rattle.player.specs.Calls.{Play, work}

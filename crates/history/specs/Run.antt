@@ -9,7 +9,7 @@ use lib.ListN.{length, take, drop}
 use lib.Seq.{sets}
 use lib.Dec.{eqb, leb, ltb}
 use Rattle.words.specs.Bytes.{le32}
-use Rattle.words.specs.Choice.{given, orElse}
+use Rattle.words.specs.Status.{given, orElse}
 use Rattle.region.specs.Written.{rectangleAt}
 use Rattle.lent.specs.Lent.{lent, lentStatus, records}
 use Rattle.player.specs.Calls.{Play, playWith}

@@ -3,7 +3,7 @@ use mathlib.Core.Path.{_≡_, refl, sym, ap, _∙_}
 use mathlib.Core.List.{List}
 use Prim.Native.Nat.{ℕ, zero, suc}
 use Rattle.words.specs.Bytes.{le32}
-use Rattle.words.specs.Choice.{orElse}
+use Rattle.words.specs.Status.{orElse}
 use Rattle.emr.specs.declared.Row.{Row}
 use Rattle.emr.specs.declared.Fields.{Fields}
 use Rattle.emr.specs.Types.{rowOf}

@@ -3,7 +3,7 @@ use Prim.Native.Nat.{ℕ, zero, suc}
 use mathlib.Core.Bool.{Bool, cond, not, _&&_, _||_}
 use mathlib.Core.List.{List}
 use lib.Dec.{eqb}
-use Rattle.words.specs.Choice.{given, orElse, lowest}
+use Rattle.words.specs.Status.{given, orElse, lowest}
 use Rattle.dib.specs.Header.{rows}
 use Rattle.dib.specs.HeaderStatus.{dibStatus}
 use Rattle.emr.specs.declared.Row.{Row}

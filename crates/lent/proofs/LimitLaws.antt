@@ -5,7 +5,7 @@ use Prim.Native.Nat.{ℕ, _*_, _/_, _%_, _≤_, _<_}
 use native.Mathlib.Nat.{mul-le-mul}
 use lib.Dec.{ltb, eqb, lit<}
 use borrow.Author.Tests.{lt-ltb, le-ltb, ltb-false, eq-eqb, ne-eqb, eqb-true, not-false}
-use Rattle.words.specs.Choice.{given}
+use Rattle.words.specs.Status.{given}
 use Rattle.words.proofs.ChoiceLaws.{given-none, cond-true, cond-false, or-none, or-by-second}
 use Rattle.journal.specs.Records.{stride}
 use Rattle.lent.specs.Lent.{badSurface, badJournal, limits}

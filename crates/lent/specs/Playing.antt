@@ -4,7 +4,7 @@ use mathlib.Core.List.{List, [], _∷_, _++_}
 use lib.ListN.{length}
 use lib.Seq.{sets}
 use lib.Dec.{ltb}
-use Rattle.words.specs.Choice.{given, orElse}
+use Rattle.words.specs.Status.{given, orElse}
 use Rattle.journal.specs.Drawing.{Work, drawn}
 use Rattle.journal.specs.Records.{stride, Entry, bytesOf, saved, closing}
 use Rattle.lent.specs.Lent.{Lent, lent, Outcome, outcome, settle, lentStatus, records}

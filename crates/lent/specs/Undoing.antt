@@ -3,7 +3,7 @@ use Prim.Native.Nat.{ℕ, _-_}
 use mathlib.Core.Bool.{Bool, not, _||_}
 use mathlib.Core.List.{List}
 use lib.Dec.{eqb, ltb}
-use Rattle.words.specs.Choice.{given, orElse}
+use Rattle.words.specs.Status.{given, orElse}
 use Rattle.journal.specs.Records.{mark, Entry, entryAt, entriesAt}
 use Rattle.journal.specs.Restoring.{restored, anyOff}
 use Rattle.lent.specs.Lent.{Lent, lent, Outcome, outcome, settle, lentStatus}

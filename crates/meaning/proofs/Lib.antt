@@ -1,4 +1,4 @@
 pub mod ColumnLaws
 pub mod FitLaws
-pub mod RowLaws
+pub mod FilledRowLaws
 pub mod SignedSamplingLaws

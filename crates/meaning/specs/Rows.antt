@@ -13,7 +13,7 @@ use Rattle.sample.specs.Colour.{masksIn}
 use Rattle.fetch.specs.Fetched.{Tables}
 use Rattle.judge.specs.declared.Record.{Record}
 use Rattle.judge.specs.Good.{Good}
-use Rattle.picture.specs.Palette.{picturePalette}
+use Rattle.picture.specs.Shown.{picturePalette}
 use Rattle.meaning.specs.Sampling.{isFormat1, sourceColumn, sourceShown, maskShown}
 
 -- every column lies in a picture so wide

@@ -12,7 +12,7 @@ use Rattle.judge.specs.declared.Action.{Action}
 use Rattle.judge.specs.declared.Action.the-variants.{Blend0, Blend1, Masked, Raster}
 use Rattle.judge.specs.declared.Record.{Record}
 use Rattle.judge.specs.Record.{bitsPart}
-use Rattle.picture.specs.Palette.{picturePalette, pictureRow}
+use Rattle.picture.specs.Shown.{picturePalette, pictureRow}
 
 -- "A negative extent covers the pixels before its corner": the first column of a source's rectangle, which lies in its picture
 unfoldable pub sourceStart : (x cx : ℕ) → ℕ

@@ -1,2 +1,2 @@
-pub mod PaletteLaws
-pub mod RowLaws
+pub mod TableLaws
+pub mod PictureRowLaws

@@ -1,1 +1,1 @@
-pub mod Palette
+pub mod Shown

@@ -8,7 +8,7 @@ ghost use Rattle.dib.specs.HeaderStatus.{badHeader};
 ghost use Rattle.sample.specs.At.{Colours};
 ghost use Rattle.judge.specs.Record.{headerPart, bitsPart};
 ghost use Rattle.judge.specs.Good.{Fit};
-ghost use Rattle.picture.specs.Palette.{black as blackOf, shownEntries, headerPalette, picturePalette, pictureRow};
+ghost use Rattle.picture.specs.Shown.{black as blackOf, shownEntries, headerPalette, picturePalette, pictureRow};
 use dib::Header;
 use judge::Picture;
 

@@ -9,7 +9,7 @@ use lib.ListN.{length}
 use lib.Seq.{sets}
 use lib.Dec.{ltb}
 use borrow.Author.Tests.{lt-ltb, le-ltb}
-use Rattle.words.specs.Choice.{orElse}
+use Rattle.words.specs.Status.{orElse}
 use Rattle.words.proofs.ListLaws.{sets-append}
 use Rattle.words.proofs.ChoiceLaws.{cond-true, cond-false}
 use Rattle.judge.specs.declared.Record.{Record}

@@ -7,7 +7,7 @@ use native.Mathlib.Omega.{arith}
 use lib.ListN.{length}
 use lib.Dec.{eqb, ltb}
 use borrow.Author.Tests.{lt-ltb, le-ltb, eq-eqb, ne-eqb}
-use Rattle.words.specs.Choice.{given, orElse}
+use Rattle.words.specs.Status.{given, orElse}
 use Rattle.words.proofs.ChoiceLaws.{cond-true, cond-false, or-by-first}
 use Rattle.journal.specs.Records.{stride, entryAt, entriesAt}
 use Rattle.journal.specs.Restoring.{restored, anyOff}

@@ -19,8 +19,8 @@ use Rattle.judge.specs.Record.{headerPart}
 use Rattle.judge.specs.Check.{checkOf}
 use Rattle.judge.specs.Good.{Fit, Good}
 use Rattle.judge.proofs.AcceptedLaws.{accepted}
-use Rattle.picture.specs.Palette.{headerPalette}
-use Rattle.picture.proofs.PaletteLaws.{table-room, shown-some, no-colours, rest, rest-is}
+use Rattle.picture.specs.Shown.{headerPalette}
+use Rattle.picture.proofs.TableLaws.{table-room, shown-some, no-colours, rest, rest-is}
 use Rattle.reading.specs.declared.Reading.{Reading}
 use Rattle.reading.specs.Reading.{
   Found, present, none, wanted, emptyReading, fullReading, foundIn, foundOf, readingOf, readingFrom, readPalette, paletteFrom, headerBytes,

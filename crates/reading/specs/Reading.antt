@@ -14,7 +14,7 @@ use Rattle.judge.specs.declared.Checked.{Checked}
 use Rattle.judge.specs.declared.Checked.the-variants.{Accepted, Refused}
 use Rattle.judge.specs.Record.{headerPart}
 use Rattle.judge.specs.Check.{checkOf}
-use Rattle.picture.specs.Palette.{black, shownEntries, headerPalette}
+use Rattle.picture.specs.Shown.{black, shownEntries, headerPalette}
 use Rattle.reading.specs.declared.Reading.{Reading}
 
 -- ---- the picture that is asked for

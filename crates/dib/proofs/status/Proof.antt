@@ -1,7 +1,7 @@
 -- The code's expression is the definition's, once status 8 has left.
 use Prim.Native.Nat.{ℕ}
 use lib.Dec.{ltb}
-use Rattle.words.specs.Choice.{given}
+use Rattle.words.specs.Status.{given}
 use Rattle.words.proofs.ChoiceLaws.{cond-false}
 use mathlib.Core.Path.{_≡_, _∙_, sym, ap}
 use mathlib.Core.Bool.{true, false}

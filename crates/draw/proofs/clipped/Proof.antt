@@ -7,7 +7,7 @@ use lib.Seq.{length-take-le}
 use Rattle.sample.specs.Colour.{masksIn}
 use Rattle.meaning.proofs.FitLaws.{extents}
 use Rattle.draw.proofs.DrawLaws.{columns-inside, mask-columns-inside}
-use Rattle.draw.proofs.TargetLaws.{none-drawn, none-saved, target-lies, mapped}
+use Rattle.draw.proofs.ReadyLaws.{none-drawn, none-saved, target-lies, mapped}
 use borrow.Author.Needs.{needs}
 use Rattle.draw.proofs.clipped.Statement.{statement}
 use Rattle.draw.proofs.clipped.Tie as tie

@@ -1,6 +1,6 @@
 -- Each call answers its definition, and the code joins them as the definition does.
 use mathlib.Core.Path.{_∙_}
-use Rattle.words.specs.Choice.{given}
+use Rattle.words.specs.Status.{given}
 use Rattle.judge.specs.Check.{callStatus}
 use borrow.Author.Needs.{needs}
 use Rattle.judge.proofs.call_status.Statement.{statement}

@@ -1,6 +1,6 @@
 -- Each call answers its definition, and the code joins them as the definition does.
 use mathlib.Core.Path.{_∙_}
-use Rattle.words.specs.Choice.{orElse, lowest}
+use Rattle.words.specs.Status.{orElse, lowest}
 use Rattle.judge.specs.Check.{dibsStatus, laterStatus}
 use borrow.Author.Needs.{needs}
 use Rattle.judge.proofs.later_status.Statement.{statement}

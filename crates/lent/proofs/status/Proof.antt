@@ -1,6 +1,6 @@
 -- Each call answers its definition, and the code joins them as the definition does.
 use mathlib.Core.Path.{_∙_}
-use Rattle.words.specs.Choice.{given}
+use Rattle.words.specs.Status.{given}
 use Rattle.lent.specs.Lent.{limits}
 use borrow.Author.Needs.{needs}
 use Rattle.lent.proofs.status.Statement.{statement}

@@ -4,7 +4,7 @@ use Prim.Native.Nat.{_+_, _*_, _≤_}
 use native.Mathlib.Omega.{arith}
 use lib.ListN.{length}
 use Rattle.dib.proofs.HeaderLaws.{passed-fields, entries-bound}
-use Rattle.picture.proofs.PaletteLaws.{entries-in, table-in, table-palette}
+use Rattle.picture.proofs.TableLaws.{entries-in, table-in, table-palette}
 use borrow.Author.Needs.{needs}
 use Rattle.picture.proofs.header_palette.Statement.{statement}
 use Rattle.picture.proofs.header_palette.Tie as tie

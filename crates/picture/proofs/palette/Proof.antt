@@ -5,8 +5,8 @@ use mathlib.Core.List.{List}
 use lib.ListN.{length}
 use Rattle.words.proofs.ChoiceLaws.{cond-true, cond-false}
 use Rattle.dib.specs.HeaderStatus.{badHeader}
-use Rattle.picture.specs.Palette.{picturePalette, headerPalette}
-use Rattle.picture.proofs.RowLaws.{length-header}
+use Rattle.picture.specs.Shown.{picturePalette, headerPalette}
+use Rattle.picture.proofs.PictureRowLaws.{length-header}
 use borrow.Author.Needs.{needs}
 use Rattle.picture.proofs.palette.Statement.{statement}
 use Rattle.picture.proofs.palette.Tie as tie

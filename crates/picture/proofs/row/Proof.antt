@@ -1,7 +1,7 @@
 -- A row that is counted from the top lies in the bits part, which holds all rows.
 use mathlib.Core.Path.{_∙_}
 use Rattle.sample.specs.Stored.{storedRow, rowBytes}
-use Rattle.picture.proofs.RowLaws.{row-inside}
+use Rattle.picture.proofs.PictureRowLaws.{row-inside}
 use borrow.Author.Needs.{needs}
 use Rattle.picture.proofs.row.Statement.{statement}
 use Rattle.picture.proofs.row.Tie as tie

@@ -2,7 +2,7 @@
 use Prim.Native.Nat.{_≤_}
 use native.Mathlib.Omega.{arith}
 use lib.ListN.{length}
-use Rattle.picture.proofs.PaletteLaws.{table-in}
+use Rattle.picture.proofs.TableLaws.{table-in}
 use Rattle.reading.proofs.ReadingLaws.{entries-inside, palette-is}
 use borrow.Author.Needs.{needs}
 use Rattle.reading.proofs.palette.Statement.{statement}

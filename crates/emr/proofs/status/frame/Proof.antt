@@ -3,7 +3,7 @@ use mathlib.Core.Path.{ap, _∙_}
 use Prim.Native.Nat.{ℕ}
 use lib.ListN.{length}
 use denote.Ref.{now}
-use Rattle.words.specs.Choice.{given}
+use Rattle.words.specs.Status.{given}
 use Rattle.emr.specs.FrameStatus.{frameStatus, badType, badSize}
 use borrow.Author.Needs.{needs}
 use Rattle.emr.proofs.status.frame.Statement.{statement}

@@ -1,7 +1,7 @@
 -- Each call answers its definition, and the code joins them as the definition does.
 use mathlib.Core.Path.{_∙_}
 use mathlib.Core.Bool.{_||_}
-use Rattle.words.specs.Choice.{given}
+use Rattle.words.specs.Status.{given}
 use Rattle.emr.specs.FrameStatus.{partsStatus}
 use borrow.Author.Needs.{needs}
 use Rattle.emr.proofs.status.parts.Statement.{statement}

@@ -2,7 +2,7 @@
 use denote.Ref.{now}
 use native.Mathlib.Omega.{arith}
 use Rattle.dib.proofs.HeaderLaws.{sound}
-use Rattle.meaning.proofs.RowLaws.{fields-ok, mask-none, mask-filled, line-reaches, bits-reach, mask-row-in}
+use Rattle.meaning.proofs.FilledRowLaws.{fields-ok, mask-none, mask-filled, line-reaches, bits-reach, mask-row-in}
 use borrow.Author.Needs.{needs}
 use Rattle.meaning.proofs.rows.of_mask.Statement.{statement}
 use Rattle.meaning.proofs.rows.of_mask.Tie as tie

@@ -14,7 +14,7 @@ use Rattle.dib.specs.declared.Header.{Header}
 use Rattle.dib.specs.Header.{tableStart, entries}
 use Rattle.dib.specs.HeaderStatus.{badFields, badHeader}
 use Rattle.sample.specs.Palette.{paletteOf}
-use Rattle.picture.specs.Palette.{black, shownEntries, headerPalette}
+use Rattle.picture.specs.Shown.{black, shownEntries, headerPalette}
 
 -- a header part that status 8 lets pass has room for its table
 pub table-room : (len : ℕ) (h : Header) → badHeader len h ≡ false → tableStart h + 4 * entries h ≤ len

@@ -26,8 +26,8 @@ use Rattle.judge.specs.declared.Picture.{Picture}
 use Rattle.judge.specs.declared.Record.{Record}
 use Rattle.judge.specs.Record.{bitsPart}
 use Rattle.judge.specs.Good.{Fit, Good}
-use Rattle.picture.specs.Palette.{picturePalette, pictureRow}
-use Rattle.picture.proofs.RowLaws.{length-bits}
+use Rattle.picture.specs.Shown.{picturePalette, pictureRow}
+use Rattle.picture.proofs.PictureRowLaws.{length-bits}
 use Rattle.fetch.specs.Fetched.{fetched, InLine, Readable}
 use Rattle.fetch.proofs.ReadableLaws.{readable}
 use Rattle.meaning.specs.Sampling.{isFormat1, sourceColumn, sourceShown, maskShown}
