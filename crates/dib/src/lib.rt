@@ -130,5 +130,9 @@ pub fn status(len: usize, h: Header, bits: u32) -> u32
     if bad_header(len, h) {
         return 8;
     }
-    words::given(9, bad_masks(h), words::given(10, (bits as u64) < bits_needed(h), 0))
+    words::given(
+        9,
+        bad_masks(h),
+        words::given(10, (bits as u64) < bits_needed(h), 0),
+    )
 }

@@ -74,16 +74,7 @@ fn rows(
     while k < t.rows.count {
         let j = (t.rows.index + k) as u32;
         let y = (t.rows.at + k) as u32;
-        meaning::rows::of_source(
-            s,
-            r,
-            masks,
-            table,
-            palette,
-            source_columns,
-            j,
-            &mut colours,
-        );
+        meaning::rows::of_source(s, r, masks, table, palette, source_columns, j, &mut colours);
         meaning::rows::of_mask(s, r, mask_columns, j, &mut bits);
         paint::row(
             surface,

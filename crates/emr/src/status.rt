@@ -25,7 +25,11 @@ pub fn frame(s: &[u8], at: Offsets) -> u32
 {
     let size = words::read_u32(s, 4);
     let sized = words::given(5, bad_size(size, s.len(), at.fixed), 0);
-    words::given(3, bad_length(s.len()), words::given(4, at.fixed == 0, sized))
+    words::given(
+        3,
+        bad_length(s.len()),
+        words::given(4, at.fixed == 0, sized),
+    )
 }
 
 // At 64 bits the sum of an offset and a size does not wrap.

@@ -6,7 +6,9 @@ use crate::Offsets;
 use crate::Row;
 
 const ALPHABLEND: u32 = 0x72;
+
 const MASKBLT: u32 = 0x4E;
+
 const STRETCHDIBITS: u32 = 0x51;
 
 fn fields_at(

@@ -39,5 +39,10 @@ pub fn read(s: &[u8], at: usize) -> Transform
 pub fn is_identity(x: Transform) -> bool
     ensures { λ r. ⌜ r ≡ isIdentity x ⌝ }
 {
-    (x.m11 == 1.0) & (x.m12 == 0.0) & (x.m21 == 0.0) & (x.m22 == 1.0) & (x.dx == 0.0) & (x.dy == 0.0)
+    (x.m11 == 1.0)
+        & (x.m12 == 0.0)
+        & (x.m21 == 0.0)
+        & (x.m22 == 1.0)
+        & (x.dx == 0.0)
+        & (x.dy == 0.0)
 }

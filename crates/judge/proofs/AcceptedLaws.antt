@@ -28,11 +28,11 @@ picture-fit len p h b e = record {
   header-in = h;
   bits-in = b;
   sound = λ q.
-    let d = sym (cond-true (p .present) (dibStatus (p .«bmi_len») (p .header) (p .«bits_len»)) 0 q) ∙ e in
-    let a = given-none 8 (badHeader (p .«bmi_len») (p .header)) _ (lit< tt) d in
-    let m = given-none 9 (badMasks (p .header)) _ (lit< tt) (a .1) in
-    let c = given-none 10 (ltb (p .«bits_len») (bitsNeeded (p .header))) 0 (lit< tt) (m .1) in
-    record { header-ok = a .0; masks-ok = m .0; rows-ok = ltb-false (p .«bits_len») _ (c .0) };
+      let d = sym (cond-true (p .present) (dibStatus (p .«bmi_len») (p .header) (p .«bits_len»)) 0 q) ∙ e in
+      let a = given-none 8 (badHeader (p .«bmi_len») (p .header)) _ (lit< tt) d in
+      let m = given-none 9 (badMasks (p .header)) _ (lit< tt) (a .1) in
+      let c = given-none 10 (ltb (p .«bits_len») (bitsNeeded (p .header))) 0 (lit< tt) (m .1) in
+      record { header-ok = a .0; masks-ok = m .0; rows-ok = ltb-false (p .«bits_len») _ (c .0) };
 }
 
 accepted-is : (k : ℕ) (r q : Record) → Accepted r ≡ settled k q → (k ≡ 0) × (r ≡ q)
@@ -77,7 +77,7 @@ accepted s r e =
     let p = orElse-none (frameStatus s (rowIn s .at)) (partsStatus s (rowIn s .at) (fieldsIn s)) (f .0) in
     let i = inside s (rowIn s .at) (p .1) in
     let g : Good (length s) (recordOf s) =
-          good (rowIn s) (fieldsIn s .operation) (recordOf s) (length s) (f .1)
-          (picture-fit (length s) (recordOf s .source) (i .0 .header) (i .0 .bits))
-          (picture-fit (length s) (recordOf s .mask) (i .1 .header) (i .1 .bits)) in
+    good (rowIn s) (fieldsIn s .operation) (recordOf s) (length s) (f .1)
+    (picture-fit (length s) (recordOf s .source) (i .0 .header) (i .0 .bits))
+    (picture-fit (length s) (recordOf s .mask) (i .1 .header) (i .1 .bits)) in
     (a .1, rw (a .1) g)

@@ -97,7 +97,11 @@ fn record_of(s: &[u8], kind: u32, row: Row, f: Fields) -> Record
 fn picture_status(p: Picture) -> u32
     ensures { λ r. ⌜ r ≡ pictureStatus p ⌝ }
 {
-    words::either(p.present, dib::status(p.bmi_len as usize, p.header, p.bits_len), 0)
+    words::either(
+        p.present,
+        dib::status(p.bmi_len as usize, p.header, p.bits_len),
+        0,
+    )
 }
 
 // 12.
@@ -125,7 +129,11 @@ fn call_status(row: Row, operation: u32, r: Record) -> u32
     let call = operation::bad_operation(form, operation, action, p.present, p.header);
     let place = bad_geometry(row.signed, r);
     let stencil = operation::bad_mask(row.at.mask != 0, m.present, m.header);
-    words::given(11, call, words::given(12, place, words::given(13, stencil, 0)))
+    words::given(
+        11,
+        call,
+        words::given(12, place, words::given(13, stencil, 0)),
+    )
 }
 
 // 8 to 13, or 0.
@@ -155,7 +163,10 @@ pub fn check(s: &[u8]) -> Checked
     let row = emr::types::of(kind);
     let f = emr::fixed::read(s, row.at);
     let r = record_of(s, kind, row, f);
-    let framed = words::or_else(emr::status::frame(s, row.at), emr::status::parts(s, row.at, f));
+    let framed = words::or_else(
+        emr::status::frame(s, row.at),
+        emr::status::parts(s, row.at, f),
+    );
     settle(words::or_else(framed, later_status(row, f.operation, r)), r)
 }
 

@@ -52,7 +52,8 @@ fn reads_source(a: Action) -> bool
     match a {
         Action::Blend0(_) => true,
         Action::Blend1(_) => true,
-        Action::Masked(fore, back) => pixel::raster::needs_source(fore) | pixel::raster::needs_source(back),
+        Action::Masked(fore, back) => pixel::raster::needs_source(fore)
+            | pixel::raster::needs_source(back),
         Action::Raster(op) => pixel::raster::needs_source(op),
     }
 }

@@ -42,6 +42,13 @@ passed w h pixels size used q =
 pub limits-none : {w h pixels size used : ℕ} → Passed w h pixels size used → 0 ≡ limits w h pixels size used
 unfolding limits badSurface badJournal
 limits-none {w} {h} {pixels} {size} {used} p =
-    rw (le-ltb w 1 (p .wide .0), le-ltb 4096 w (p .wide .1), le-ltb h 1 (p .high .0), le-ltb 4096 h (p .high .1),
-    eq-eqb pixels (w * h) (p .pixels-are), eq-eqb (size % stride) 0 (p .whole), le-ltb 20000000 (size / stride) (p .most),
-    le-ltb (size / stride) used (p .enough))
+    rw (
+      le-ltb w 1 (p .wide .0),
+      le-ltb 4096 w (p .wide .1),
+      le-ltb h 1 (p .high .0),
+      le-ltb 4096 h (p .high .1),
+      eq-eqb pixels (w * h) (p .pixels-are),
+      eq-eqb (size % stride) 0 (p .whole),
+      le-ltb 20000000 (size / stride) (p .most),
+      le-ltb (size / stride) used (p .enough),
+    )

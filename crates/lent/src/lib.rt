@@ -23,5 +23,9 @@ fn bad_journal(size: usize, used: u64) -> bool
 pub fn status(width: u32, height: u32, pixels: usize, size: usize, used: u64) -> u32
     ensures { λ r. ⌜ r ≡ limits width height pixels size used ⌝ }
 {
-    words::given(1, bad_surface(width, height, pixels), words::given(2, bad_journal(size, used), 0))
+    words::given(
+        1,
+        bad_surface(width, height, pixels),
+        words::given(2, bad_journal(size, used), 0),
+    )
 }

@@ -19,8 +19,8 @@ returns c =
     let start = at-bad-size .before in
     let rows = at-bad-extent2 .bad-extent2 .ensures ∙ ap badExtent (at-magnitude .magnitude .ensures) in
     λ t.
-      at-bad-size .bad-size .ensures t || not (eqb (start .args .h .planes) 1) || not (at-is-depth .is-depth .ensures t) || at-bad-compression .bad-compression .ensures t
-      || at-bad-extent .bad-extent .ensures t || rows t || c .bad-colours .ensures t
+    at-bad-size .bad-size .ensures t || not (eqb (start .args .h .planes) 1) || not (at-is-depth .is-depth .ensures t) || at-bad-compression .bad-compression .ensures t
+    || at-bad-extent .bad-extent .ensures t || rows t || c .bad-colours .ensures t
 
 pub bad-fields-spec : {M : Type 1} → statement M
 bad-fields-spec =

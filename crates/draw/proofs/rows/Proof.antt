@@ -115,9 +115,9 @@ row-requires c κs =
     let few = few-columns lies mapped in
     let last : a .t .rows .at + a .t .rows .count ≤ a .height = lies .lines (omega (arith, taken)) in
     let colours = length-take-le count (at-source .of-source .last .1 .1 .1 .1 .1 .1 .1 .0)
-        (omega (arith, few, loop .inv .1, at-source .of-source .ensures .long)) in
+    (omega (arith, few, loop .inv .1, at-source .of-source .ensures .long)) in
     let bits = length-take-le count (at-mask .of-mask .last .1 .1 .1 .1 .0)
-        (omega (arith, few, loop .inv .2, at-mask .of-mask .ensures .long)) in
+    (omega (arith, few, loop .inv .2, at-mask .of-mask .ensures .long)) in
     let pixels = row-inside (a .width) (a .height) (a .t .rows .at + loop .k) (omega (arith, taken, last)) in
     let records = records-inside (a .at) (a .t .columns .count) (loop .k) (a .t .rows .count) (loop .next) taken (loop .inv .0 .next-record) in (
       (omega (arith, colours, lies .columns, mapped .as-many), omega (arith, colours, bits)),

@@ -20,7 +20,7 @@ part-read-start c =
     let n = c .before .shown-entries in
     let from = c .table-start in
     let h : from .result + 4 * n .result ≤ length (a .args .header .now) =
-          entries-in (a .args .header .now) (a .args .h) (a .pre) _ _ (from .ensures .0) (n .ensures .0) in
+    entries-in (a .args .header .now) (a .args .h) (a .pre) _ _ (from .ensures .0) (n .ensures .0) in
     search needs
 
 read-requires : tie.Need-read-requires

@@ -15,7 +15,7 @@ part-read-start : tie.Need-part-read-start
 part-read-start c =
     let a = c .before .before in
     let h : a .args .r .«table_at» ≤ length (c .header-part .result .now) =
-          omega (arith, entries-inside _ _ (a .pre) _ (c .header-part .ensures .bytes)) in
+    omega (arith, entries-inside _ _ (a .pre) _ (c .header-part .ensures .bytes)) in
     search needs
 
 read-requires : tie.Need-read-requires

@@ -12,8 +12,8 @@ returns c =
     let at-is-channel = at-is-channel2 .before in
     let start = at-is-channel .before in
     λ t.
-      not (at-is-channel .is-channel .ensures t) || not (at-is-channel2 .is-channel2 .ensures t) || not (at-is-channel3 .is-channel3 .ensures t)
-      || not (eqb (start .args .m .alpha) 0 || c .is-channel4 .ensures t)
+    not (at-is-channel .is-channel .ensures t) || not (at-is-channel2 .is-channel2 .ensures t) || not (at-is-channel3 .is-channel3 .ensures t)
+    || not (eqb (start .args .m .alpha) 0 || c .is-channel4 .ensures t)
 
 pub bad-channels-spec : {M : Type 1} → statement M
 bad-channels-spec = tie.close (tie.spec (λ c κs. search needs) (λ c κs. search needs) (λ c κs. search needs) (λ c κs. search needs) returns)

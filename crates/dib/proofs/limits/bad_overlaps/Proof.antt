@@ -12,8 +12,8 @@ returns c =
     let at-overlap2 = at-overlap3 .before in
     let at-overlap = at-overlap2 .before in
     λ t.
-      at-overlap .overlap .ensures t || at-overlap2 .overlap2 .ensures t || at-overlap3 .overlap3 .ensures t
-      || at-overlap4 .overlap4 .ensures t || at-overlap5 .overlap5 .ensures t || c .overlap6 .ensures t
+    at-overlap .overlap .ensures t || at-overlap2 .overlap2 .ensures t || at-overlap3 .overlap3 .ensures t
+    || at-overlap4 .overlap4 .ensures t || at-overlap5 .overlap5 .ensures t || c .overlap6 .ensures t
 
 pub bad-overlaps-spec : {M : Type 1} → statement M
 bad-overlaps-spec =

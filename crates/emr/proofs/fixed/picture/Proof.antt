@@ -15,7 +15,7 @@ returns c =
     let at-read-u322 = at-read-u323 .before in
     let at-read-u32 = at-read-u322 .before in
     let present = at-is-present .is-present .ensures
-        ∙ (λ t. isPresent (at-read-u32 .read-u32 .ensures t) (at-read-u322 .read-u322 .ensures t) (at-read-u323 .read-u323 .ensures t) (at-read-u324 .read-u324 .ensures t)) in
+    ∙ (λ t. isPresent (at-read-u32 .read-u32 .ensures t) (at-read-u322 .read-u322 .ensures t) (at-read-u323 .read-u323 .ensures t) (at-read-u324 .read-u324 .ensures t)) in
     λ t. record {
       present = present t;
       x = at-read-u325 .read-u325 .ensures t;

@@ -12,8 +12,8 @@ returns c =
     let start = at-is-negative .before in
     let a = start .args in
     λ t.
-      not (a .signed)
-      && (at-is-negative .is-negative .ensures t || at-is-negative2 .is-negative2 .ensures t || a .present && (at-is-negative3 .is-negative3 .ensures t || c .is-negative4 .ensures t))
+    not (a .signed)
+    && (at-is-negative .is-negative .ensures t || at-is-negative2 .is-negative2 .ensures t || a .present && (at-is-negative3 .is-negative3 .ensures t || c .is-negative4 .ensures t))
 
 pub bad-signs-spec : {M : Type 1} → statement M
 bad-signs-spec = tie.close (tie.spec (λ c κs. search needs) (λ c κs. search needs) (λ c κs. search needs) (λ c κs. search needs) returns)

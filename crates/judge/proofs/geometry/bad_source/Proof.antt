@@ -12,8 +12,8 @@ returns c =
     let at-bad-side2 = at-far .before in
     let at-bad-side = at-bad-side2 .before in
     λ t.
-      at-bad-side .bad-side .ensures t || at-bad-side2 .bad-side2 .ensures t || at-far .far .ensures t || at-far2 .far2 .ensures t
-      || at-sticks-out .sticks-out .ensures t || c .sticks-out2 .ensures t
+    at-bad-side .bad-side .ensures t || at-bad-side2 .bad-side2 .ensures t || at-far .far .ensures t || at-far2 .far2 .ensures t
+    || at-sticks-out .sticks-out .ensures t || c .sticks-out2 .ensures t
 
 pub bad-source-spec : {M : Type 1} → statement M
 bad-source-spec =

@@ -15,8 +15,8 @@ returns c =
     let start = at-magnitude .before in
     let a = start .args in
     let beyond = c .choose .ensures
-        ∙ (λ t.
-          cond (at-is-negative2 .is-negative2 .ensures t) (ltb (a .x) (at-magnitude .magnitude .ensures t) || ltb (a .n) (a .x)) (ltb (a .n) (a .x + at-magnitude .magnitude .ensures t))) in
+    ∙ (λ t.
+    cond (at-is-negative2 .is-negative2 .ensures t) (ltb (a .x) (at-magnitude .magnitude .ensures t) || ltb (a .n) (a .x)) (ltb (a .n) (a .x + at-magnitude .magnitude .ensures t))) in
     λ t. at-is-negative .is-negative .ensures t || beyond t
 
 pub sticks-out-spec : {M : Type 1} → statement M
