@@ -1,1 +1,1 @@
-pub mod ViewLaws
+pub mod Walk
