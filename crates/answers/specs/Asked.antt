@@ -7,6 +7,7 @@ use lib.ListN.{length, drop}
 use Rattle.words.specs.Bytes.{le32}
 use Rattle.region.specs.Written.{rectangleAt}
 use Rattle.player.specs.Calls.{Play, playWith}
+use Rattle.reading.specs.declared.Layout.{Layout}
 use Rattle.reading.specs.declared.Reading.{Reading}
 use Rattle.reading.specs.Reading.{readingOf, headerBytes, viewBytes, readPalette}
 use Rattle.script.specs.Sum.{sumOf, bytesOf}
@@ -21,13 +22,13 @@ abbrev pub playAsked : (s front : List ℕ) → Play
 playAsked s front = playWith s (rectangleAt front 4) (le32 front 20)
 
 -- "answer headerlength headersum viewlength viewsum width rows bits compression topdown red green blue alpha palettesum"
-unfoldable pub lineOf : Reading → (header view palette : ℕ) → List ℕ
-lineOf r header view palette =
-    r .status ∷ r .«header_len» ∷ header ∷ r .«view_len» ∷ view ∷ r .width ∷ r .rows ∷ r .bits ∷ r .compression
-    ∷ cond (r .«top_down») 1 0 ∷ r .red ∷ r .green ∷ r .blue ∷ r .alpha ∷ palette ∷ []
+unfoldable pub lineOf : (status : ℕ) (header view : List ℕ) (width rows : ℕ) → Layout → (palette : List ℕ) → List ℕ
+lineOf status header view width rows l palette =
+    status ∷ length header ∷ sumOf header ∷ length view ∷ sumOf view ∷ width ∷ rows ∷ l .bits ∷ l .compression
+    ∷ cond (l .«top_down») 1 0 ∷ l .masks .red ∷ l .masks .green ∷ l .masks .blue ∷ l .masks .alpha ∷ sumOf (bytesOf palette) ∷ []
 
 abbrev pub lineFrom : (s : List ℕ) → Reading → (palette : List ℕ) → List ℕ
-lineFrom s r palette = lineOf r (sumOf (headerBytes s r)) (sumOf (viewBytes s r)) (sumOf (bytesOf palette))
+lineFrom s r palette = lineOf (r .status) (headerBytes s r) (viewBytes s r) (r .width) (r .rows) (r .layout) palette
 
 unfoldable pub readLine : (s : List ℕ) (mask : Bool) → List ℕ
 readLine s mask = lineFrom s (readingOf s mask) (readPalette s mask)

@@ -8,7 +8,7 @@ ghost use Rattle.player.specs.Calls.{play as playOf};
 ghost use Rattle.player.specs.Left.{left};
 ghost use Rattle.answers.specs.Asked.{Rest, playAsked, lineOf, readLine};
 use player::Answer;
-use reading::Reading;
+use reading::Layout;
 
 // What a call leaves for the next one: what the calls are lent (sides, pixels, journal bytes, and the journal's records in use),
 // the bytes that wait to be printed, whether another call may follow, and whether the script is free of faults so far.
@@ -67,30 +67,42 @@ pub fn read(s: &[u8], mask: bool) -> [u64; 15]
     ensures { λ r. ⌜ r ≡ readLine (now (s .entry)) mask ⌝ }
 {
     let r = reading::read(s, mask);
-    let header = script::sum::of_bytes(reading::header_part(s, mask));
-    let view = script::sum::of_bytes(reading::view_part(s, mask));
-    let palette = reading::palette(s, mask);
-    numbers(r, header, view, script::sum::of_words(&palette))
+    let header = reading::header_part(s, r);
+    let bytes = reading::view_part(s, r);
+    let palette = reading::palette(s, r);
+    line(r.status, header, bytes, r.width, r.rows, r.layout, &palette)
 }
 
-fn numbers(r: Reading, header: u64, view: u64, palette: u64) -> [u64; 15]
-    ensures { λ l. ⌜ l ≡ lineOf r header view palette ⌝ }
+// The numbers of a reading's line, from its parts.
+fn line(
+    status: u32,
+    header: &[u8],
+    bytes: &[u8],
+    width: u32,
+    rows: u32,
+    l: Layout,
+    palette: &[u32; 256],
+) -> [u64; 15]
+    ensures { λ n. ⌜ n ≡ lineOf status (now (header .entry)) (now (bytes .entry)) width rows l (now (palette .entry)) ⌝ }
 {
+    let header_sum = script::sum::of_bytes(header);
+    let view_sum = script::sum::of_bytes(bytes);
+    let palette_sum = script::sum::of_words(palette);
     [
-        r.status as u64,
-        r.header_len as u64,
-        header,
-        r.view_len as u64,
-        view,
-        r.width as u64,
-        r.rows as u64,
-        r.bits as u64,
-        r.compression as u64,
-        words::flag(r.top_down),
-        r.red as u64,
-        r.green as u64,
-        r.blue as u64,
-        r.alpha as u64,
-        palette,
+        status as u64,
+        header.len() as u64,
+        header_sum,
+        bytes.len() as u64,
+        view_sum,
+        width as u64,
+        rows as u64,
+        l.bits as u64,
+        l.compression as u64,
+        words::flag(l.top_down),
+        l.masks.red as u64,
+        l.masks.green as u64,
+        l.masks.blue as u64,
+        l.masks.alpha as u64,
+        palette_sum,
     ]
 }

@@ -1,3 +1,4 @@
+-- What is lent of surface and journal is a play's, and the rest stays.
 use mathlib.Core.Path.{sym, ap, _∙_}
 use mathlib.Core.List.{List, _++_}
 use Prim.Native.Nat.{ℕ}
@@ -9,32 +10,11 @@ use borrow.Author.Needs.{needs}
 use Rattle.answers.proofs.play.Statement.{statement}
 use Rattle.answers.proofs.play.Tie as tie
 
-read-requires : tie.Need-read-requires
-read-requires c κs = search needs
-
-read-u32-requires : tie.Need-read-u32-requires
-read-u32-requires c κs = search needs
-
-slice-relend-prefix-play : tie.Need-slice-relend-prefix-play
-slice-relend-prefix-play c = search needs
-
 slice-aggregate-play : tie.Need-slice-aggregate-play
 slice-aggregate-play c = sym (length-take-le _ _ (c .before .before .before .before .before .before .before .pre .0))
 
-slice-relend-prefix-play-2 : tie.Need-slice-relend-prefix-play-2
-slice-relend-prefix-play-2 c = search needs
-
 slice-aggregate-play-2 : tie.Need-slice-aggregate-play-2
 slice-aggregate-play-2 c = sym (length-take-le _ _ (c .before .before .before .before .before .before .before .before .pre .1))
-
-play-requires : tie.Need-play-requires
-play-requires c κs = search needs
-
-same-length : tie.Need-same-length
-same-length c = search needs
-
-same-length-2 : tie.Need-same-length-2
-same-length-2 c = search needs
 
 returns : tie.Need-returns
 returns c =
@@ -54,15 +34,6 @@ returns c =
 
 pub play-spec : {M : Type 1} → statement M
 play-spec =
-    tie.close
-    (tie.spec
-    read-requires
-    read-u32-requires
-    slice-relend-prefix-play
-    slice-aggregate-play
-    slice-relend-prefix-play-2
-    slice-aggregate-play-2
-    play-requires
-    same-length
-    same-length-2
-    returns)
+    tie.close (tie.spec
+    (λ c κs. search needs) (λ c κs. search needs) (λ c. search needs) slice-aggregate-play (λ c. search needs)
+    slice-aggregate-play-2 (λ c κs. search needs) (λ c. search needs) (λ c. search needs) returns)

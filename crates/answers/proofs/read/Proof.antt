@@ -1,51 +1,22 @@
+-- The parts and the palette are those of the one reading.
+use denote.Ref.{now}
 use Rattle.answers.proofs.AskedLaws.{line-read}
 use borrow.Author.Needs.{needs}
 use Rattle.answers.proofs.read.Statement.{statement}
 use Rattle.answers.proofs.read.Tie as tie
 
-read-requires : tie.Need-read-requires
-read-requires c κs = search needs
-
-header-part-requires : tie.Need-header-part-requires
-header-part-requires c κs = search needs
-
-of-bytes-requires : tie.Need-of-bytes-requires
-of-bytes-requires c κs = search needs
-
-view-part-requires : tie.Need-view-part-requires
-view-part-requires c κs = search needs
-
-of-bytes-requires-2 : tie.Need-of-bytes-requires-2
-of-bytes-requires-2 c κs = search needs
-
-palette-requires : tie.Need-palette-requires
-palette-requires c κs = search needs
-
-slice-aggregate-of-words : tie.Need-slice-aggregate-of-words
-slice-aggregate-of-words c = search needs
-
-of-words-requires : tie.Need-of-words-requires
-of-words-requires c κs = search needs
-
-numbers-requires : tie.Need-numbers-requires
-numbers-requires c κs = search needs
-
 returns : tie.Need-returns
 returns c =
-    line-read _ _ _ _ _ _ _ _ _ _ (c .before .before .before .before .before .before .before .before .read .ensures) (c .before .before .before .before .before .before .before .header-part .ensures .0) (c .before .before .before .before .before .before .of-bytes .ensures)
-    (c .before .before .before .before .before .view-part .ensures .0) (c .before .before .before .before .of-bytes2 .ensures) (c .before .before .before .palette .ensures) (c .before .of-words .ensures) (c .numbers .ensures)
+    let at-palette = c .before .before in
+    let at-view-part = at-palette .before in
+    let at-header-part = at-view-part .before in
+    let at-read = at-header-part .before in
+    let start = at-read .before .before in
+    line-read (now (start .args .s)) (start .args .mask) _ _ _ _ _ (at-read .read .ensures) (at-header-part .header-part .ensures .bytes) (at-view-part .view-part .ensures .bytes)
+    (at-palette .palette .ensures) (c .line .ensures)
 
 pub read-spec : {M : Type 1} → statement M
 read-spec =
-    tie.close
-    (tie.spec
-    read-requires
-    header-part-requires
-    of-bytes-requires
-    view-part-requires
-    of-bytes-requires-2
-    palette-requires
-    slice-aggregate-of-words
-    of-words-requires
-    numbers-requires
+    tie.close (tie.spec
+    (λ c κs. search needs) (λ c κs. search needs) (λ c κs. search needs) (λ c κs. search needs) (λ c κs. search needs)
     returns)
