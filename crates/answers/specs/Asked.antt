@@ -22,13 +22,20 @@ abbrev pub playAsked : (s front : List ℕ) → Play
 playAsked s front = playWith s (rectangleAt front 4) (le32 front 20)
 
 -- "answer headerlength headersum viewlength viewsum width rows bits compression topdown red green blue alpha palettesum"
-unfoldable pub lineOf : (status : ℕ) (header view : List ℕ) (width rows : ℕ) → Layout → (palette : List ℕ) → List ℕ
-lineOf status header view width rows l palette =
-    status ∷ length header ∷ sumOf header ∷ length view ∷ sumOf view ∷ width ∷ rows ∷ l .bits ∷ l .compression
-    ∷ cond (l .«top_down») 1 0 ∷ l .masks .red ∷ l .masks .green ∷ l .masks .blue ∷ l .masks .alpha ∷ sumOf (bytesOf palette) ∷ []
+unfoldable pub lineWith : (status headerlength headersum viewlength viewsum width rows : ℕ) → Layout → (palettesum : ℕ) → List ℕ
+lineWith status headerlength headersum viewlength viewsum width rows l palettesum =
+    status ∷ headerlength ∷ headersum ∷ viewlength ∷ viewsum ∷ width ∷ rows ∷ l .bits ∷ l .compression ∷ cond (l .«top_down») 1 0
+    ∷ l .masks .red ∷ l .masks .green ∷ l .masks .blue ∷ l .masks .alpha ∷ palettesum ∷ []
+
+abbrev pub lineOf : Reading → (header view palette : ℕ) → List ℕ
+lineOf r header view palette = lineWith (r .status) (r .«header_len») header (r .«view_len») view (r .width) (r .rows) (r .layout) palette
+
+abbrev pub lineParts : (status : ℕ) (header bytes : List ℕ) (width rows : ℕ) → Layout → (palette : List ℕ) → List ℕ
+lineParts status header bytes width rows l palette =
+    lineWith status (length header) (sumOf header) (length bytes) (sumOf bytes) width rows l (sumOf (bytesOf palette))
 
 abbrev pub lineFrom : (s : List ℕ) → Reading → (palette : List ℕ) → List ℕ
-lineFrom s r palette = lineOf (r .status) (headerBytes s r) (viewBytes s r) (r .width) (r .rows) (r .layout) palette
+lineFrom s r palette = lineOf r (sumOf (headerBytes s r)) (sumOf (viewBytes s r)) (sumOf (bytesOf palette))
 
 unfoldable pub readLine : (s : List ℕ) (mask : Bool) → List ℕ
 readLine s mask = lineFrom s (readingOf s mask) (readPalette s mask)

@@ -6,7 +6,7 @@ ghost use Rattle.lent.specs.Lent.{lent as lentOf};
 ghost use Rattle.lent.specs.Undoing.{undoOf};
 ghost use Rattle.player.specs.Calls.{play as playOf};
 ghost use Rattle.player.specs.Left.{left};
-ghost use Rattle.answers.specs.Asked.{Rest, playAsked, lineOf, readLine};
+ghost use Rattle.answers.specs.Asked.{Rest, playAsked, lineParts, readLine};
 use player::Answer;
 use reading::Layout;
 
@@ -26,7 +26,9 @@ pub struct State {
 // A play of record s. Behind the opcode stand the clip's four numbers, the brush and a tag, which is not looked at.
 pub fn play(surface: &mut [u32], journal: &mut [u8], m: State, s: &[u8], front: &[u8]) -> Answer
     requires { ⌜ (m .pixels ≤ length (now surface)) × (m .bytes ≤ length (now journal)) ⌝ }
-    ensures { λ r. ⌜ left r (take (m .pixels) (now (surface .exit))) (take (m .bytes) (now (journal .exit))) ≡ playOf (m .width) (m .height) (playAsked (now (s .entry)) (now (front .entry))) (lentOf (take (m .pixels) (now (surface .entry))) (take (m .bytes) (now (journal .entry))) (m .used)) ⌝ }
+    ensures { λ r. ⌜ left r (take (m .pixels) (now (surface .exit))) (take (m .bytes) (now (journal .exit)))
+        ≡ playOf (m .width) (m .height) (playAsked (now (s .entry)) (now (front .entry)))
+        (lentOf (take (m .pixels) (now (surface .entry))) (take (m .bytes) (now (journal .entry))) (m .used)) ⌝ }
     ensures { λ r. ⌜ (Rest (m .pixels) (now (surface .entry)) (now (surface .exit))) × (Rest (m .bytes) (now (journal .entry)) (now (journal .exit))) ⌝ }
 {
     let clip = region::read(front, 4);
@@ -48,7 +50,8 @@ pub fn play(surface: &mut [u32], journal: &mut [u8], m: State, s: &[u8], front: 
 // An undo of the last play.
 pub fn undo(surface: &mut [u32], journal: &[u8], m: State) -> Answer
     requires { ⌜ (m .pixels ≤ length (now surface)) × (m .bytes ≤ length (now journal)) ⌝ }
-    ensures { λ r. ⌜ left r (take (m .pixels) (now (surface .exit))) (take (m .bytes) (now (journal .entry))) ≡ undoOf (m .width) (m .height) (lentOf (take (m .pixels) (now (surface .entry))) (take (m .bytes) (now (journal .entry))) (m .used)) ⌝ }
+    ensures { λ r. ⌜ left r (take (m .pixels) (now (surface .exit))) (take (m .bytes) (now (journal .entry)))
+        ≡ undoOf (m .width) (m .height) (lentOf (take (m .pixels) (now (surface .entry))) (take (m .bytes) (now (journal .entry))) (m .used)) ⌝ }
     ensures { λ r. ⌜ Rest (m .pixels) (now (surface .entry)) (now (surface .exit)) ⌝ }
 {
     let pixels = m.pixels;
@@ -62,47 +65,49 @@ pub fn undo(surface: &mut [u32], journal: &[u8], m: State) -> Answer
     )
 }
 
-// A reading of record s, as the numbers of its line.
+// A reading of record s, as the numbers of its line. The reading is a struct that holds the record's own bytes: it is taken apart here.
 pub fn read(s: &[u8], mask: bool) -> [u64; 15]
     ensures { λ r. ⌜ r ≡ readLine (now (s .entry)) mask ⌝ }
 {
-    let r = reading::read(s, mask);
-    let header = reading::header_part(s, r);
-    let bytes = reading::view_part(s, r);
-    let palette = reading::palette(s, r);
-    line(r.status, header, bytes, r.width, r.rows, r.layout, &palette)
+    let w = view::read(s, mask);
+    numbers(
+        w.status,
+        w.header,
+        w.view.bytes,
+        w.view.width,
+        w.view.rows,
+        w.view.layout,
+        w.palette,
+    )
 }
 
-// The numbers of a reading's line, from its parts.
-fn line(
+fn numbers<'a>(
     status: u32,
-    header: &[u8],
-    bytes: &[u8],
+    header: &'a [u8],
+    bytes: &'a [u8],
     width: u32,
     rows: u32,
-    l: Layout,
-    palette: &[u32; 256],
+    layout: Layout,
+    palette: [u32; 256],
 ) -> [u64; 15]
-    ensures { λ n. ⌜ n ≡ lineOf status (now (header .entry)) (now (bytes .entry)) width rows l (now (palette .entry)) ⌝ }
+    ensures { λ l. ⌜ l ≡ lineParts status (now (header .entry)) (now (bytes .entry)) width rows layout palette ⌝ }
 {
-    let header_sum = script::sum::of_bytes(header);
-    let view_sum = script::sum::of_bytes(bytes);
-    let palette_sum = script::sum::of_words(palette);
+    let masks = layout.masks;
     [
         status as u64,
         header.len() as u64,
-        header_sum,
+        script::sum::of_bytes(header),
         bytes.len() as u64,
-        view_sum,
+        script::sum::of_bytes(bytes),
         width as u64,
         rows as u64,
-        l.bits as u64,
-        l.compression as u64,
-        words::flag(l.top_down),
-        l.masks.red as u64,
-        l.masks.green as u64,
-        l.masks.blue as u64,
-        l.masks.alpha as u64,
-        palette_sum,
+        layout.bits as u64,
+        layout.compression as u64,
+        words::flag(layout.top_down),
+        masks.red as u64,
+        masks.green as u64,
+        masks.blue as u64,
+        masks.alpha as u64,
+        script::sum::of_words(&palette),
     ]
 }

@@ -1,4 +1,4 @@
--- What is lent of the surface is an undo's, and the rest stays.
+-- The call leaves what it was lent of the surface as `player::undo` says, and what was not lent is as it was.
 use mathlib.Core.Path.{sym, ap, _∙_}
 use mathlib.Core.List.{List}
 use Prim.Native.Nat.{ℕ}
@@ -11,11 +11,20 @@ use borrow.Author.Needs.{needs}
 use Rattle.answers.proofs.undo.Statement.{statement}
 use Rattle.answers.proofs.undo.Tie as tie
 
+slice-relend-prefix-undo : tie.Need-slice-relend-prefix-undo
+slice-relend-prefix-undo c = search needs
+
 slice-aggregate-undo : tie.Need-slice-aggregate-undo
 slice-aggregate-undo c = sym (length-take-le _ _ (c .before .before .before .pre .0))
 
 slice-aggregate-undo-2 : tie.Need-slice-aggregate-undo-2
 slice-aggregate-undo-2 c = sym (length-take-le _ _ (c .before .before .before .before .pre .1))
+
+undo-requires : tie.Need-undo-requires
+undo-requires c κs = search needs
+
+same-length : tie.Need-same-length
+same-length c = search needs
 
 returns : tie.Need-returns
 returns c =
@@ -31,5 +40,11 @@ returns c =
 
 pub undo-spec : {M : Type 1} → statement M
 undo-spec =
-    tie.close (tie.spec
-    (λ c. search needs) slice-aggregate-undo slice-aggregate-undo-2 (λ c κs. search needs) (λ c. search needs) returns)
+    tie.close
+    (tie.spec
+    slice-relend-prefix-undo
+    slice-aggregate-undo
+    slice-aggregate-undo-2
+    undo-requires
+    same-length
+    returns)

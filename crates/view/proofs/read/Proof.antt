@@ -4,8 +4,8 @@ use Rattle.view.proofs.Walk
 use Walk.{_≡_, refl, ap, subst, _∙_, ℕ, Bool, List, [], _∷_, map, map-id, URA, Heap, Model, GhostRules, Running, Atoms, Given, givenOf, Lft, Fml, fsep, emp}
 use Walk.{id⊢, factI, RefT, now, named, w32, Val, vbool, vint, vstruct, vcons, vnil, u8, u32, bool, Is, shows, Array, ShrSlice, slice-vals}
 use Walk.{shr-slice-lawful, uint-makes, peeks, nothing, owned, own-shut, ‵, _$_, _∵_, !, qed, by, move, keep, use1, fsplit, fjoin, whole, sub, look-in, agg}
-use Walk.{look, init, forget, stop, fld, from, load, and-then, no-more, assigns, returns, alloc1, alloc0, params1, pass1, pass0, free1, free0, α, Gives}
-use Walk.{Held, held-slice, held-array, held-type, same, gives, drops, swaps, local, binds, had-twice, calls, ends, Walked, walk-shows}
+use Walk.{look, init, stop, fld, from, load, and-then, no-more, assigns, returns, alloc1, alloc0, params1, pass1, pass0, free0, α, Gives}
+use Walk.{Held, held-slice, held-array, held-type, same, gives, drops, swaps, local, frees-first, binds, had-twice, calls, ends, Walked, walk-shows}
 use denote.Struct.Laws as LL
 use Rattle.words.specs.Part.{IsPart}
 use Rattle.reading.specs.declared.Reading.{Reading}
@@ -92,34 +92,32 @@ module _ {M : Type 1} (𝓤 : URA M) (H : Heap 𝓤) (𝓜 : Model 𝓤 H) (𝓖
   walk κ q s m i₀ =
       alloc1 ! (λ l₀. alloc1 ! (λ l₁. alloc1 ! (λ l₂. alloc1 ! (λ l₃. alloc1 ! (λ l₄. alloc1 ! (λ l₅. alloc1 ! (λ l₆. alloc1 ! (λ l₇. alloc0 ! $ params1 ! $
       pass1 ! (init ! 12 refl (shr-slice-lawful 𝓤 H A W (named 0) κ u8 .typed s _ i₀ .0)) $ pass1 ! (init ! 10 refl (tt, tt)) $ pass0 ! $
-      move ! (16 ∷ 17 ∷ []) $
-      -- [the token; what is had; _7; …]: local i stands at 16 − 2 · i
+      move ! (16 ∷ 17 ∷ 14 ∷ 15 ∷ 12 ∷ 13 ∷ 10 ∷ 11 ∷ 8 ∷ 9 ∷ 6 ∷ 7 ∷ 4 ∷ 5 ∷ 2 ∷ 3 ∷ []) $
+      -- [the token; what is had; _0; …]: local i stands at 2 + 2 · i
       calls 𝓤 H 𝓜 𝓖 𝓡 code.env callee.read.ended (callee.read.clauses 𝓤 H) (binds 𝓤 H A bool κ q s m (vbool m)) (IsReading (now s) m) (λ r e. id⊢ 𝓤 _)
       ! code.calls-reading·read (callee.read.Met.met 𝓤 H 𝓜 𝓖 𝓡) (had-twice 𝓤 H A W κ s m) same (id⊢ 𝓤 _)
-      (and-then ! (local ! 14 refl) (and-then ! (local ! 12 refl) (no-more !))) (reading 𝓤 H A W) 10 (λ F. refl) (λ x e₁ i₁ tw₁.
+      (and-then ! (local ! 4 refl) (and-then ! (local ! 6 refl) (no-more !))) (reading 𝓤 H A W) 8 (λ F. refl) (λ x e₁ i₁ tw₁.
       let y = binds 𝓤 H A R.the-row κ q s x (reading 𝓤 H A W .val x) in
       calls 𝓤 H 𝓜 𝓖 𝓡 code.env callee.header_part.ended (callee.header_part.clauses 𝓤 H) y (λ h. IsPart s h (x .«header_at») (x .«header_len»)) (λ r e. id⊢ 𝓤 _)
       ! code.calls-reading·header-part (callee.header_part.Met.met 𝓤 H 𝓜 𝓖 𝓡) tw₁ (swaps W) (factI 𝓤 _ (emp 𝓤) (e₁ .within))
-      (and-then ! (local ! 14 refl) (and-then ! (local ! 10 refl) (no-more !))) (held-slice 𝓤 H A W κ) 8 (λ F. refl) (λ h e₂ i₂ tw₂.
+      (and-then ! (local ! 4 refl) (and-then ! (local ! 8 refl) (no-more !))) (held-slice 𝓤 H A W κ) 10 (λ F. refl) (λ h e₂ i₂ tw₂.
       calls 𝓤 H 𝓜 𝓖 𝓡 code.env callee.view_part.ended (callee.view_part.clauses 𝓤 H) y (λ b. IsPart s b (x .«view_at») (x .«view_len»)) (λ r e. id⊢ 𝓤 _)
       ! code.calls-reading·view-part (callee.view_part.Met.met 𝓤 H 𝓜 𝓖 𝓡) tw₂ (drops (swaps W)) (factI 𝓤 _ (emp 𝓤) (e₁ .within))
-      (and-then ! (local ! 14 refl) (and-then ! (local ! 10 refl) (no-more !))) (held-slice 𝓤 H A W κ) 6 (λ F. refl) (λ b e₃ i₃ tw₃.
+      (and-then ! (local ! 4 refl) (and-then ! (local ! 8 refl) (no-more !))) (held-slice 𝓤 H A W κ) 12 (λ F. refl) (λ b e₃ i₃ tw₃.
       calls 𝓤 H 𝓜 𝓖 𝓡 code.env callee.palette.ended (callee.palette.clauses 𝓤 H) y (λ p. p ≡ shownPalette (now s) x) (λ r e. id⊢ 𝓤 _)
       ! code.calls-reading·palette (callee.palette.Met.met 𝓤 H 𝓜 𝓖 𝓡) tw₃ (drops (drops (swaps W))) (factI 𝓤 _ (emp 𝓤) (e₁ .within))
-      (and-then ! (local ! 14 refl) (and-then ! (local ! 10 refl) (no-more !))) (held-array 𝓤 H A W w32 256) 4 (λ F. refl) (λ p e₄ i₄ tw₄.
+      (and-then ! (local ! 4 refl) (and-then ! (local ! 8 refl) (no-more !))) (held-array 𝓤 H A W w32 256) 14 (λ F. refl) (λ p e₄ i₄ tw₄.
       move ! (1 ∷ 0 ∷ []) $ gives ! (puts 𝓤 H A W κ x h b p i₁) $
       peeks ! (T.the-row (α κ)) (Is (T.the-row (α κ))) (shows 𝓤 H A (T.the-row (α κ))) (made x h b p) (mach 𝓤 H A W κ x h b p p ∷ []) (λ is.
       move ! (1 ∷ 0 ∷ []) $
       let wt = LL.lawful (T.the-type (α κ)) (T′.the-laws (α κ)) 𝓤 H A W .typed (made x h b p) _ is .0 in
-      assigns ! (agg ! (and-then ! (local ! 6 refl) (and-then ! (load ! (from ! (fld ! refl (stop !))) (look-in ! 10 (sub ! 7 refl (whole !))))
-      (and-then ! (load ! (from ! (fld ! refl (stop !))) (look-in ! 10 (sub ! 8 refl (whole !))))
-      (and-then ! (load ! (from ! (fld ! refl (stop !))) (look-in ! 10 (sub ! 9 refl (whole !)))) (no-more !))))))
-      (from ! (stop !)) (init ! 2 refl (tt, wt .1 .1 .1 .0)) $
-      assigns ! (agg ! (and-then ! (load ! (from ! (fld ! refl (stop !))) (look-in ! 10 (sub ! 0 refl (whole !)))) (and-then ! (local ! 8 refl)
-      (and-then ! (local ! 2 refl) (and-then ! (local ! 4 refl) (no-more !)))))) (from ! (stop !)) (init ! 16 refl wt) $ returns ! (look ! 16 refl) $
-      forget ! 2 refl $ forget ! 4 refl $ forget ! 6 refl $ forget ! 8 refl $ forget ! 10 refl $ forget ! 12 refl $ forget ! 14 refl $ forget ! 16 refl $
-      move ! (16 ∷ 17 ∷ []) $ free1 ! $ move ! (14 ∷ 15 ∷ []) $ free1 ! $ move ! (12 ∷ 13 ∷ []) $ free1 ! $ move ! (10 ∷ 11 ∷ []) $ free1 ! $
-      move ! (8 ∷ 9 ∷ []) $ free1 ! $ move ! (6 ∷ 7 ∷ []) $ free1 ! $ move ! (4 ∷ 5 ∷ []) $ free1 ! $ move ! (2 ∷ 3 ∷ []) $ free1 ! $ free0 ! $
+      assigns ! (agg ! (and-then ! (local ! 12 refl) (and-then ! (load ! (from ! (fld ! refl (stop !))) (look-in ! 8 (sub ! 7 refl (whole !))))
+      (and-then ! (load ! (from ! (fld ! refl (stop !))) (look-in ! 8 (sub ! 8 refl (whole !))))
+      (and-then ! (load ! (from ! (fld ! refl (stop !))) (look-in ! 8 (sub ! 9 refl (whole !)))) (no-more !))))))
+      (from ! (stop !)) (init ! 16 refl (tt, wt .1 .1 .1 .0)) $
+      assigns ! (agg ! (and-then ! (load ! (from ! (fld ! refl (stop !))) (look-in ! 8 (sub ! 0 refl (whole !)))) (and-then ! (local ! 10 refl)
+      (and-then ! (local ! 16 refl) (and-then ! (local ! 14 refl) (no-more !)))))) (from ! (stop !)) (init ! 2 refl wt) $ returns ! (look ! 2 refl) $
+      frees-first ! $ frees-first ! $ frees-first ! $ frees-first ! $ frees-first ! $ frees-first ! $ frees-first ! $ frees-first ! $ free0 ! $
       by ! (ends 𝓤 H 𝓜 𝓖 𝓡 code.env code.function (self.signature .result) (λ _. IsWhole) κ q s m _ _ (is-whole s m x h b p e₁ e₂ e₃ e₄)))))))))))))))
 
 pub read-spec : {M : Type 1} → stated.statement M
