@@ -1,7 +1,7 @@
 // The library's calls as a script asks for them, on what is lent of the surface and the journal.
 ghost use mathlib.Core.Path.{_≡_};
 ghost use Prim.Native.Nat.{_≤_};
-ghost use lib.ListN.{length, take, drop};
+ghost use lib.ListN.{length, take};
 ghost use Rattle.lent.specs.Lent.{lent as lentOf};
 ghost use Rattle.lent.specs.Undoing.{undoOf};
 ghost use Rattle.player.specs.Calls.{play as playOf};

@@ -1,18 +1,17 @@
 -- What the tests of a header say of its numbers. Assumes nothing.
-use mathlib.Core.Path.{_≡_, refl, sym, ap, ap₂, _∙_}
-use mathlib.Core.Bool.{Bool, true, false, cond, not, _||_, _&&_, true≢false}
-use Prim.Native.Nat.{ℕ, _+_, _*_, _^_, _≤_, _<_, min}
+use mathlib.Core.Path.{_≡_, refl}
+use mathlib.Core.Bool.{Bool, true, false, cond, not, _||_}
+use Prim.Native.Nat.{ℕ, _*_, _^_, _≤_, min}
 use native.Mathlib.Omega.{arith}
-use native.Mathlib.Nat.{mul-le-mul, add-zero}
-use mathlib.Core.Logic.{_⊎_, inl, inr, ⊎-elim}
+use native.Mathlib.Nat.{mul-le-mul}
 use lib.Pow.{pow-mono}
 use lib.Dec.{eqb, ltb, leb, lit≤}
-use borrow.Author.Tests.{lt-ltb, le-ltb, ltb-true, ltb-false, leb-true, eqb-true, not-false}
+use borrow.Author.Tests.{lt-ltb, le-ltb, ltb-true, ltb-false, leb-true, not-false}
 use Rattle.pixel.specs.Place.{isDepth, rowLength}
 use Rattle.pixel.proofs.PlaceLaws.{on-depth}
 use Rattle.words.proofs.ChoiceLaws.{or-none, cond-upto}
 use Rattle.dib.specs.declared.Header.{Header}
-use Rattle.dib.specs.Header.{hasMasks, rows as rowsOf, tableStart, entries}
+use Rattle.dib.specs.Header.{rows as rowsOf, entries}
 use Rattle.dib.specs.HeaderStatus.{badSize, badCompression, badExtent, badColours, badFields, badHeader, bitsNeeded}
 
 -- above one of two bounds is above the lower
@@ -66,15 +65,6 @@ sound h e =
       colours = colours-bounds (h .colours) (h .bits) (g .1);
     }
 
--- a header is 40 or 108 bytes long
-pub size-is : (n : ℕ) → badSize n ≡ false → (n ≡ 40) ⊎ (n ≡ 108)
-size-is n e = go (eqb n 40) (eqb n 108) refl refl (not-false _ e)
-  where
-    go : (x y : Bool) → eqb n 40 ≡ x → eqb n 108 ≡ y → (x || y) ≡ true → (n ≡ 40) ⊎ (n ≡ 108)
-    go true y p q t = inl (eqb-true n 40 p)
-    go false true p q t = inr (eqb-true n 108 q)
-    go false false p q t = absurd (true≢false (sym t))
-
 -- the rows of a picture within the limits take at most 2^30 bytes
 pub row-small : (w b : ℕ) → w ≤ 16384 → b ≤ 32 → rowLength w b ≤ 65536
 unfolding rowLength
@@ -88,9 +78,6 @@ bits-small h e =
 
 -- ---- where the colour table stands, and its length
 
-size-bound : (h : Header) → badFields h ≡ false → h .size ≤ 108
-size-bound h e = ⊎-elim (λ q. omega arith) (λ q. omega arith) (size-is (h .size) (sound h e .size))
-
 -- 2 ^ bits is at most 256 at 8 bits
 pub full-table : (b : ℕ) → cond (leb b 8) (min (2 ^ b) 256) 0 ≡ cond (leb b 8) (2 ^ b) 0
 full-table b = go (leb b 8) refl
@@ -100,10 +87,6 @@ full-table b = go (leb b 8) refl
     go false e = refl
 
 -- the table of a header that status 8 lets pass
-pub start-bound : (h : Header) → badFields h ≡ false → tableStart h ≤ 120
-unfolding tableStart
-start-bound h e = let p = cond-upto (hasMasks (h .compression) && eqb (h .size) 40) 12 0 {n = 12} (lit≤ tt) (lit≤ tt) in let q = size-bound h e in omega arith
-
 pub entries-bound : (h : Header) → badFields h ≡ false → entries h ≤ 256
 unfolding entries
 entries-bound h e =

@@ -1,6 +1,6 @@
 -- Document 01, "Reading a picture": a DIB's header, from the bytes of its header part. Definitions only.
 -- A byte past the part's end reads as 0, so these take every part; whether the part is long enough is judged in Judged.antt.
-use Prim.Native.Nat.{ℕ, _+_, _*_, _^_}
+use Prim.Native.Nat.{ℕ, _+_, _^_}
 use mathlib.Core.Bool.{Bool, cond, _&&_}
 use mathlib.Core.List.{List}
 use lib.Dec.{eqb, leb}

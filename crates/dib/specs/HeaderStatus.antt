@@ -1,7 +1,7 @@
 -- Document 01, refusals 8, 9 and 10: what a DIB's header part and the length of its bits part are judged by. Definitions only.
 use Prim.Native.Nat.{ℕ, _+_, _*_, _^_}
 use mathlib.Core.Bool.{Bool, not, _&&_, _||_}
-use lib.Dec.{eqb, leb, ltb}
+use lib.Dec.{eqb, ltb}
 use lib.Bits.{bitAnd}
 use Rattle.words.specs.Status.{given}
 use Rattle.pixel.specs.Masks.{isChannel}

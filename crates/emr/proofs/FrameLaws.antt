@@ -1,6 +1,6 @@
 -- A picture that status 6 lets pass lies in the record, and an absent one is empty. Assumes nothing.
 use mathlib.Core.Path.{_≡_, refl}
-use mathlib.Core.Bool.{Bool, true, false, cond, not, _&&_, _||_}
+use mathlib.Core.Bool.{Bool, true, false, cond, _&&_, _||_}
 use mathlib.Core.List.{List}
 use Prim.Native.Nat.{ℕ, _+_, _≤_}
 use native.Mathlib.Omega.{arith}
@@ -10,7 +10,7 @@ use borrow.Author.Tests.{eqb-true, ltb-false, not-false}
 use Rattle.words.proofs.ChoiceLaws.{or-none, and-both, given-none}
 use Rattle.emr.specs.declared.Offsets.{Offsets}
 use Rattle.emr.specs.declared.PictureFields.{PictureFields}
-use Rattle.emr.specs.Fixed.{isPresent, noFields, pictureAt, maskAt, fieldsAt}
+use Rattle.emr.specs.Fixed.{isPresent, noFields, pictureAt, fieldsAt}
 use Rattle.emr.specs.FrameStatus.{outside, badParts, partsStatus}
 
 pub record Inside (len : ℕ) (p : PictureFields) : Type 0 where

@@ -8,7 +8,6 @@ use native.Mathlib.Omega.{arith}
 use lib.Dec.{eqb, leb, lit<}
 use lib.ListN.{length, getD, set}
 use borrow.Author.Tests.{eqb-true}
-use Rattle.words.specs.Filled.{Filled}
 use Rattle.words.proofs.ChoiceLaws.{and-both}
 use Rattle.words.proofs.FillLaws.{filled-by}
 use Rattle.words.proofs.FillingLaws.{Filling, filling-begins, filling-turns, filling-ends}

@@ -1,6 +1,6 @@
 -- An accepted record is good: every test of 6, 8, 9, 10 and 12 was passed, and each says one field of `Good`. Assumes nothing.
 use mathlib.Core.Path.{_≡_, refl, sym, _∙_}
-use mathlib.Core.Bool.{Bool, true, false, _||_, _&&_}
+use mathlib.Core.Bool.{Bool, false, _||_, _&&_}
 use mathlib.Core.List.{List}
 use Prim.Native.Nat.{ℕ, zero, suc, _+_, _≤_}
 use native.Mathlib.Omega.{arith}
@@ -12,15 +12,15 @@ use Rattle.dib.specs.Header.{rows}
 use Rattle.dib.specs.HeaderStatus.{badHeader, badMasks, bitsNeeded, dibStatus}
 use Rattle.emr.specs.declared.Row.{Row}
 use Rattle.emr.specs.FrameStatus.{frameStatus, partsStatus}
-use Rattle.emr.proofs.FrameLaws.{Inside, inside}
+use Rattle.emr.proofs.FrameLaws.{inside}
 use Rattle.judge.specs.declared.Picture.{Picture}
 use Rattle.judge.specs.declared.Record.{Record}
-use Rattle.judge.specs.declared.Checked.the-variants.{Accepted, Refused}
+use Rattle.judge.specs.declared.Checked.the-variants.{Accepted}
 use Rattle.judge.specs.Operation.{badOperation}
 use Rattle.judge.specs.Geometry.{badTarget, badSigns, badSource}
 use Rattle.judge.specs.Record.{rowIn, fieldsIn, recordOf}
 use Rattle.judge.specs.Check.{pictureStatus, dibsStatus, badGeometry, callStatus, laterStatus, statusOf, settled, checkOf}
-use Rattle.judge.specs.Good.{Dib, Fit, Good}
+use Rattle.judge.specs.Good.{Fit, Good}
 
 picture-fit : (len : ℕ) (p : Picture) → p .bmi + p .«bmi_len» ≤ len → p .bits + p .«bits_len» ≤ len → pictureStatus p ≡ 0 → Fit len p
 unfolding pictureStatus dibStatus

@@ -1,12 +1,11 @@
 -- What passing statuses 1 and 2 means. Assumes nothing.
-use mathlib.Core.Path.{_≡_, sym, ap, _∙_}
-use mathlib.Core.Bool.{Bool, true, false, not, _||_}
+use mathlib.Core.Path.{_≡_}
+use mathlib.Core.Bool.{not}
 use Prim.Native.Nat.{ℕ, _*_, _/_, _%_, _≤_, _<_}
-use native.Mathlib.Nat.{mul-le-mul}
 use lib.Dec.{ltb, eqb, lit<}
-use borrow.Author.Tests.{lt-ltb, le-ltb, ltb-false, eq-eqb, ne-eqb, eqb-true, not-false}
+use borrow.Author.Tests.{le-ltb, ltb-false, eq-eqb, eqb-true, not-false}
 use Rattle.words.specs.Status.{given}
-use Rattle.words.proofs.ChoiceLaws.{given-none, cond-true, cond-false, or-none, or-by-second}
+use Rattle.words.proofs.ChoiceLaws.{given-none, or-none}
 use Rattle.journal.specs.Records.{stride}
 use Rattle.lent.specs.Lent.{badSurface, badJournal, limits}
 

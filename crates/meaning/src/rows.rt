@@ -1,5 +1,4 @@
 // A row of source pixels and a row of mask bits. Of an absent source or mask all are 0: the rule does not look at them.
-ghost use mathlib.Core.Path.{_≡_};
 ghost use Prim.Native.Nat.{ℕ, _*_, _≤_, _<_};
 ghost use lib.ListN.{length, getD};
 ghost use Rattle.words.specs.Bytes.{magnitude32};

@@ -1,6 +1,6 @@
 -- What is read of the picture that is asked for: it fits its record, so its parts lie in it, its table in its header part, and its palette
 -- is the one that its numbers show. Where there is none, all is empty and black. Assumes nothing.
-use mathlib.Core.Path.{_≡_, refl, sym, ap, _∙_, subst}
+use mathlib.Core.Path.{_≡_, sym, ap, _∙_, subst}
 use mathlib.Core.Bool.{Bool, true, false, cond}
 use mathlib.Core.List.{List}
 use Prim.Native.Nat.{ℕ, _+_, _*_, _≤_, zero-le}
@@ -22,24 +22,7 @@ use Rattle.judge.proofs.AcceptedLaws.{accepted}
 use Rattle.picture.specs.Shown.{headerPalette}
 use Rattle.picture.proofs.TableLaws.{table-room, shown-some, no-colours, rest, rest-is}
 use Rattle.reading.specs.declared.Reading.{Reading}
-use Rattle.reading.specs.Reading.{
-  Found,
-  present,
-  none,
-  wanted,
-  emptyReading,
-  fullReading,
-  foundIn,
-  foundOf,
-  readingOf,
-  readingFrom,
-  readPalette,
-  paletteFrom,
-  headerBytes,
-  shownPalette,
-  Within,
-  IsReading,
-}
+use Rattle.reading.specs.Reading.{present, none, wanted, emptyReading, fullReading, foundIn, foundOf, readingOf, readingFrom, readPalette, paletteFrom, headerBytes, shownPalette, Within, IsReading}
 
 wanted-fit : {len : ℕ} (mask : Bool) (r : Record) → Good len r → Fit len (wanted mask r)
 wanted-fit true r g = g .mask

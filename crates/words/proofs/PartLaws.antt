@@ -1,8 +1,8 @@
 -- A part that reaches past the end of a list. Assumes nothing.
-use mathlib.Core.Path.{_≡_, refl, sym, ap, _∙_}
+use mathlib.Core.Path.{_≡_, sym, ap, _∙_}
 use mathlib.Core.List.{List, [], _∷_}
 use Prim.Native.Nat.{ℕ, zero, suc, _-_, min}
-use native.Mathlib.Nat.{zero-min, min-zero, suc-min-suc}
+use native.Mathlib.Nat.{zero-min, suc-min-suc}
 use lib.ListN.{length, take, drop, length-drop}
 use lib.Seq.{take-nil, drop-nil}
 

@@ -5,7 +5,6 @@ use Prim.Native.Nat.{ℕ}
 use lib.ListN.{take}
 use lib.Seq.{length-take-le}
 use Rattle.player.specs.Left.{left}
-use Rattle.lent.specs.Lent.{Outcome}
 use Rattle.answers.proofs.AskedLaws.{front, rest}
 use borrow.Author.Needs.{needs}
 use Rattle.answers.proofs.undo.Statement.{statement}

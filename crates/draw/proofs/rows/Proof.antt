@@ -1,6 +1,6 @@
 -- Each turn fetches a row of source pixels and mask bits and paints it, so that what is drawn and saved leads to all rows drawn and saved.
 use mathlib.Core.Path.{_≡_, sym, _∙_}
-use Prim.Native.Nat.{ℕ, _+_, _-_, _≤_, _<_}
+use Prim.Native.Nat.{ℕ, _+_, _-_, _≤_}
 use native.Mathlib.Omega.{arith}
 use lib.ListN.{length, take, length-replicate}
 use lib.Seq.{length-take-le}
@@ -9,7 +9,6 @@ use Rattle.journal.proofs.RowLaws.{Rows, rows-begin, rows-end}
 use Rattle.meaning.specs.Meaning.{meaningIn, paintOn}
 use Rattle.meaning.proofs.FitLaws.{extents}
 use Rattle.draw.proofs.DrawLaws.{few-columns, rows-more, colours-are, bits-are, row-inside, records-inside}
-use borrow.Author.Needs.{needs}
 use Rattle.draw.proofs.rows.Statement.{statement}
 use Rattle.draw.proofs.rows.Tie as tie
 

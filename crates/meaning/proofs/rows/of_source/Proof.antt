@@ -1,7 +1,7 @@
 -- A row that is read lies in the picture, and its pixels are the definition's; without a source all are 0.
 use denote.Ref.{now}
 use Rattle.meaning.proofs.FitLaws.{source-fits, row-inside}
-use Rattle.meaning.proofs.FilledRowLaws.{fields-ok, source-none, source-filled, line-reaches, as-readable}
+use Rattle.meaning.proofs.FilledRowLaws.{source-none, source-filled, line-reaches, as-readable}
 use borrow.Author.Needs.{needs}
 use Rattle.meaning.proofs.rows.of_source.Statement.{statement}
 use Rattle.meaning.proofs.rows.of_source.Tie as tie

@@ -1,5 +1,5 @@
 -- What is left goes to the front, and what is read stands behind it.
-use Prim.Native.Nat.{ℕ, _-_}
+use Prim.Native.Nat.{_-_}
 use lib.ListN.{length}
 use Rattle.replay.proofs.InputLaws.{held-front, unread-front}
 use borrow.Author.Needs.{needs}

@@ -1,8 +1,7 @@
 -- Each turn moves one byte to the front.
-use mathlib.Core.Path.{_≡_, refl, sym, ap, _∙_}
-use Prim.Native.Nat.{ℕ, _+_, _-_, _≤_}
+use Prim.Native.Nat.{_+_, _-_, _≤_}
 use native.Mathlib.Omega.{arith}
-use lib.ListN.{length, getD, length-set}
+use lib.ListN.{getD}
 use Rattle.words.specs.Filled.{Filled}
 use Rattle.words.proofs.FillLaws.{filled-none, filled-more, filled-to}
 use Rattle.replay.proofs.input.shift.Statement.{statement}

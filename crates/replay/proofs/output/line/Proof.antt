@@ -1,9 +1,8 @@
 -- Each turn puts one number, for which there is room.
-use mathlib.Core.Path.{_≡_, refl}
+use mathlib.Core.Path.{_≡_}
 use Prim.Native.Nat.{_≤_}
 use native.Mathlib.Omega.{arith}
-use lib.ListN.{length, length-set}
-use borrow.Author.Needs.{needs}
+use lib.ListN.{length}
 use Rattle.replay.proofs.output.line.Statement.{statement}
 use Rattle.replay.proofs.output.line.Tie as tie
 

@@ -4,7 +4,7 @@ use Prim.Native.Nat.{ℕ, _+_, _≤_, _-_}
 use native.Mathlib.Omega.{arith}
 use lib.ListN.{length, drop}
 use borrow.Author.Needs.{needs}
-use Rattle.script.specs.Sum.{sumFrom, sumOf, bytesOf}
+use Rattle.script.specs.Sum.{sumFrom, sumOf}
 use Rattle.script.proofs.SumLaws.{byte-more, byte-end}
 use Rattle.script.proofs.sum.of_bytes.Statement.{statement}
 use Rattle.script.proofs.sum.of_bytes.Tie as tie
