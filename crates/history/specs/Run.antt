@@ -5,10 +5,10 @@
 use Prim.Native.Nat.{ℕ, zero, suc, _+_, _*_, _/_}
 use mathlib.Core.Bool.{Bool, cond, not, _&&_}
 use mathlib.Core.List.{List, [], _∷_}
-use lib.ListN.{length, take, drop}
+use lib.ListN.{length}
 use lib.Seq.{sets}
 use lib.Dec.{eqb, leb, ltb}
-use Rattle.words.specs.Bytes.{le32}
+use Rattle.words.specs.Bytes.{partOf, le32}
 use Rattle.words.specs.Status.{given, orElse}
 use Rattle.region.specs.Written.{rectangleAt}
 use Rattle.lent.specs.Lent.{lent, lentStatus, records}
@@ -27,7 +27,7 @@ callLength l at =
     (cond (eqb (le32 l at) 2 && leb (at + 4) (length l)) 4 0)
 
 abbrev pub playAt : (list : List ℕ) (at : ℕ) → Play
-playAt l at = playWith (take (le32 l (at + 28)) (drop (at + 32) l)) (rectangleAt l (at + 4)) (le32 l (at + 20))
+playAt l at = playWith (partOf l (at + 32) (le32 l (at + 28))) (rectangleAt l (at + 4)) (le32 l (at + 20))
 
 -- the call at a place
 unfoldable pub callAt : (list : List ℕ) (at : ℕ) → Call
