@@ -1,1 +1,2 @@
+-- What the proofs on headers cite.
 pub mod HeaderLaws

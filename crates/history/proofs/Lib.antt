@@ -1,3 +1,4 @@
+-- Condition 3 and what it rests on: the kept link, a play, an undo; then the list of calls as bytes.
 pub mod Kept
 pub mod PlayStep
 pub mod UndoStep

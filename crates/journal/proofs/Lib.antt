@@ -1,3 +1,4 @@
+-- What undo rests on: records as bytes, rows saved and drawn, records restored, and the surface given back.
 pub mod RecordLaws
 pub mod RowLaws
 pub mod RestoreLaws

@@ -1,3 +1,4 @@
+-- What the check's proofs cite: the operation's cases, the answer and its number, what acceptance says, and refusal 12 over signed numbers.
 pub mod OperationLaws
 pub mod CheckLaws
 pub mod AcceptedLaws

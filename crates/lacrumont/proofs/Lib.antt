@@ -1,1 +1,2 @@
+-- What the C calls' proofs cite.
 pub mod NumberLaws

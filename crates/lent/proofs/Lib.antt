@@ -1,1 +1,2 @@
+-- What the proofs on lent memory cite.
 pub mod LimitLaws

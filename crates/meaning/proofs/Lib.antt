@@ -1,3 +1,4 @@
+-- What the proofs on sampled rows cite: columns, what acceptance says of extents, rows, and the sampling over signed numbers.
 pub mod ColumnLaws
 pub mod FitLaws
 pub mod FilledRowLaws

@@ -1,1 +1,2 @@
+-- What the painting loops' proofs cite.
 pub mod TurnLaws

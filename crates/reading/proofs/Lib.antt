@@ -1,1 +1,2 @@
+-- What the readings' proofs cite.
 pub mod ReadingLaws
