@@ -1,5 +1,5 @@
 -- Document 01, "Reading a picture": a DIB's header, from the bytes of its header part. Definitions only.
--- A byte past the part's end reads as 0, so these take every part; whether the part is long enough is judged in Judged.antt.
+-- A byte past the part's end reads as 0, so these take every part; whether the part is long enough is judged in HeaderStatus.antt.
 use Prim.Native.Nat.{ℕ, _+_, _^_}
 use mathlib.Core.Bool.{Bool, cond, _&&_}
 use mathlib.Core.List.{List}
