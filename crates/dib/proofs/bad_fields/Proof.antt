@@ -18,9 +18,12 @@ returns c =
     let at-bad-size = at-is-depth .before .before in
     let start = at-bad-size .before in
     let rows = at-bad-extent2 .bad-extent2 .ensures ∙ ap badExtent (at-magnitude .magnitude .ensures) in
+    let size = at-bad-size .bad-size .ensures in
+    let depth = at-is-depth .is-depth .ensures in
+    let compression = at-bad-compression .bad-compression .ensures in
+    let width = at-bad-extent .bad-extent .ensures in
     λ t.
-    at-bad-size .bad-size .ensures t || not (eqb (start .args .h .planes) 1) || not (at-is-depth .is-depth .ensures t) || at-bad-compression .bad-compression .ensures t
-    || at-bad-extent .bad-extent .ensures t || rows t || c .bad-colours .ensures t
+    size t || not (eqb (start .args .h .planes) 1) || not (depth t) || compression t || width t || rows t || c .bad-colours .ensures t
 
 pub bad-fields-spec : {M : Type 1} → statement M
 bad-fields-spec =

@@ -128,8 +128,9 @@ row-requires c κs =
 
 add-next : tie.Need-add-next Inv-loop μ-loop
 add-next c =
-    let at-loop = c .before .before .before .before .before .before .before .before .before .before .before .before .before .before .before .before .before .before .before in
-    let taken = c .before .before .before .before .before .before .before .before .before .before .before .before .before .before .before .before .before .if1 .taken in
+    let at-if = c .before .before .before .before .before .before .before .before .before .before .before .before .before .before .before .before .before in
+    let at-loop = at-if .before .before in
+    let taken = at-if .if1 .taken in
     let start = at-loop .before .before .before .before .before .before .before .before in
     let t = start .args .t in
     let l = at-loop .loop in

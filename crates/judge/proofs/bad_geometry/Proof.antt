@@ -18,8 +18,12 @@ returns c =
     let start = at-magnitude .before .before .before .before in
     let r = start .args .r in
     let p = r .source in
-    let source = at-bad-source .bad-source .ensures ∙ ap (badSource (p .x) (p .y) (r .«cx_src») (r .«cy_src») (p .header .width)) (at-magnitude .magnitude .ensures) in
-    λ t. at-bad-target .bad-target .ensures t || at-bad-signs .bad-signs .ensures t || p .present && source t || r .mask .present && at-bad-corner .bad-corner .ensures t
+    let rows = at-magnitude .magnitude .ensures in
+    let source = at-bad-source .bad-source .ensures ∙ ap (badSource (p .x) (p .y) (r .«cx_src») (r .«cy_src») (p .header .width)) rows in
+    let target = at-bad-target .bad-target .ensures in
+    let signs = at-bad-signs .bad-signs .ensures in
+    let corner = at-bad-corner .bad-corner .ensures in
+    λ t. target t || signs t || p .present && source t || r .mask .present && corner t
 
 pub bad-geometry-spec : {M : Type 1} → statement M
 bad-geometry-spec =

@@ -19,7 +19,9 @@ returns c =
     let start = at-bits-part .before .before .before in
     let h = start .args .p .header in
     let long = at-row-length .row-length .ensures in
-    let row = at-row-at .row-at .ensures .0 ∙ (λ t. storedRow (at-is-top-down .is-top-down .ensures t) (at-magnitude .magnitude .ensures t) (start .args .row)) in
+    let top-down = at-is-top-down .is-top-down .ensures in
+    let rows = at-magnitude .magnitude .ensures in
+    let row = at-row-at .row-at .ensures .0 ∙ (λ t. storedRow (top-down t) (rows t) (start .args .row)) in
     c .row-bytes .ensures ∙ (λ t. rowBytes (at-bits-part .bits-part .ensures t) (long t) (row t))
 
 pub row-spec : {M : Type 1} → statement M

@@ -14,8 +14,11 @@ returns c =
     let at-read-u323 = at-read-u324 .before in
     let at-read-u322 = at-read-u323 .before in
     let at-read-u32 = at-read-u322 .before in
-    let present = at-is-present .is-present .ensures
-    ∙ (λ t. isPresent (at-read-u32 .read-u32 .ensures t) (at-read-u322 .read-u322 .ensures t) (at-read-u323 .read-u323 .ensures t) (at-read-u324 .read-u324 .ensures t)) in
+    let bmi = at-read-u32 .read-u32 .ensures in
+    let bmi-len = at-read-u322 .read-u322 .ensures in
+    let bits = at-read-u323 .read-u323 .ensures in
+    let bits-len = at-read-u324 .read-u324 .ensures in
+    let present = at-is-present .is-present .ensures ∙ (λ t. isPresent (bmi t) (bmi-len t) (bits t) (bits-len t)) in
     λ t. record {
       present = present t;
       x = at-read-u325 .read-u325 .ensures t;

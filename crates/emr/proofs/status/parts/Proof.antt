@@ -16,7 +16,10 @@ returns c =
     let at-bad-transform = at-bad-usage .before in
     let at-bad-parts2 = at-bad-transform .before in
     let at-bad-parts = at-bad-parts2 .before in
-    let unread = at-given .given .ensures ∙ (λ t. given 7 (at-bad-transform .bad-transform .ensures t || at-bad-usage .bad-usage .ensures t || at-bad-usage2 .bad-usage2 .ensures t) 0) in
+    let transform = at-bad-transform .bad-transform .ensures in
+    let usage = at-bad-usage .bad-usage .ensures in
+    let usage-mask = at-bad-usage2 .bad-usage2 .ensures in
+    let unread = at-given .given .ensures ∙ (λ t. given 7 (transform t || usage t || usage-mask t) 0) in
     c .given2 .ensures ∙ (λ t. given 6 (at-bad-parts .bad-parts .ensures t || at-bad-parts2 .bad-parts2 .ensures t) (unread t))
 
 pub parts-spec : {M : Type 1} → statement M

@@ -11,9 +11,11 @@ returns c =
     let at-is-negative = at-is-negative2 .before in
     let start = at-is-negative .before in
     let a = start .args in
-    λ t.
-    not (a .signed)
-    && (at-is-negative .is-negative .ensures t || at-is-negative2 .is-negative2 .ensures t || a .present && (at-is-negative3 .is-negative3 .ensures t || c .is-negative4 .ensures t))
+    let cx = at-is-negative .is-negative .ensures in
+    let cy = at-is-negative2 .is-negative2 .ensures in
+    let cx-src = at-is-negative3 .is-negative3 .ensures in
+    let cy-src = c .is-negative4 .ensures in
+    λ t. not (a .signed) && (cx t || cy t || a .present && (cx-src t || cy-src t))
 
 pub bad-signs-spec : {M : Type 1} → statement M
 bad-signs-spec = tie.close (tie.spec (λ c κs. search needs) (λ c κs. search needs) (λ c κs. search needs) (λ c κs. search needs) returns)

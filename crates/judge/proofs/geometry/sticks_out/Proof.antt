@@ -14,9 +14,9 @@ returns c =
     let at-magnitude = at-is-negative .before in
     let start = at-magnitude .before in
     let a = start .args in
-    let beyond = c .choose .ensures
-    ∙ (λ t.
-    cond (at-is-negative2 .is-negative2 .ensures t) (ltb (a .x) (at-magnitude .magnitude .ensures t) || ltb (a .n) (a .x)) (ltb (a .n) (a .x + at-magnitude .magnitude .ensures t))) in
+    let back = at-is-negative2 .is-negative2 .ensures in
+    let size = at-magnitude .magnitude .ensures in
+    let beyond = c .choose .ensures ∙ (λ t. cond (back t) (ltb (a .x) (size t) || ltb (a .n) (a .x)) (ltb (a .n) (a .x + size t))) in
     λ t. at-is-negative .is-negative .ensures t || beyond t
 
 pub sticks-out-spec : {M : Type 1} → statement M

@@ -11,7 +11,9 @@ unfolding mirrored
 returns c =
     let at-is-negative2 = c .before in
     let at-is-negative = at-is-negative2 .before in
-    c .choose .ensures ∙ (λ t. cond (at-is-negative2 .is-negative2 .ensures t) (not (at-is-negative .is-negative .ensures t)) (at-is-negative .is-negative .ensures t))
+    let target = at-is-negative2 .is-negative2 .ensures in
+    let back = at-is-negative .is-negative .ensures in
+    c .choose .ensures ∙ (λ t. cond (target t) (not (back t)) (back t))
 
 pub is-mirrored-spec : {M : Type 1} → statement M
 is-mirrored-spec = tie.close (tie.spec (λ c κs. search needs) (λ c κs. search needs) (λ c κs. search needs) returns)
