@@ -1,12 +1,11 @@
 -- What comes back of a part that was lent is as long as the part, so what stands behind it keeps its place; equal arguments ask for equal plays.
-use mathlib.Core.Path.{_≡_, _∙_}
+use mathlib.Core.Path.{_≡_, ap, _∙_}
 use mathlib.Core.List.{List, _++_}
 use Prim.Native.Nat.{ℕ, _≤_}
 use lib.ListN.{length, take, drop}
 use lib.Seq.{length-take-le, length-front, take-at, drop-at}
-use Rattle.words.specs.Bytes.{le32}
-use Rattle.region.specs.declared.Rectangle.{Rectangle}
-use Rattle.region.specs.Written.{rectangleAt}
+use Rattle.meaning.specs.declared.Terms.{Terms}
+use Rattle.meaning.specs.Meaning.{termsAt}
 use Rattle.lent.specs.Lent.{Lent}
 use Rattle.player.specs.Calls.{playWith, play as playOf}
 use Rattle.answers.specs.Asked.{Rest, playAsked}
@@ -19,7 +18,7 @@ module _ (n : ℕ) (l e : List ℕ) (fits : n ≤ length l) (kept : length e ≡
   pub rest : Rest n l (e ++ drop n l)
   rest = record { long = length-front l e n kept; same = drop-at e (drop n l) n (kept ∙ length-take-le n l fits) }
 
--- a play, with its clip and its brush by what they were read from
-pub asked : (width height : ℕ) (m : Lent) (front s : List ℕ) (clip : Rectangle) (brush : ℕ) → clip ≡ rectangleAt front 4 → brush ≡ le32 front 20
-    → playOf width height (playWith s clip brush) m ≡ playOf width height (playAsked s front) m
-asked width height m front s clip brush ec eb = cc
+-- a play, with its terms by what they were read from
+pub asked : (width height : ℕ) (m : Lent) (front s : List ℕ) (terms : Terms) → terms ≡ termsAt front 4
+    → playOf width height (playWith s terms) m ≡ playOf width height (playAsked s front) m
+asked width height m front s terms e = ap (λ (o : Terms). playOf width height (playWith s o) m) e

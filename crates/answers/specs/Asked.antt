@@ -4,8 +4,7 @@ use mathlib.Core.List.{List, [], _∷_}
 use mathlib.Core.Bool.{Bool, cond}
 use Prim.Native.Nat.{ℕ}
 use lib.ListN.{length, drop}
-use Rattle.words.specs.Bytes.{le32}
-use Rattle.region.specs.Written.{rectangleAt}
+use Rattle.meaning.specs.Meaning.{termsAt}
 use Rattle.player.specs.Calls.{Play, playWith}
 use Rattle.reading.specs.declared.Layout.{Layout}
 use Rattle.reading.specs.declared.Reading.{Reading}
@@ -19,7 +18,7 @@ pub record Rest (n : ℕ) (before after : List ℕ) : Type 0 where
 
 -- "left, top, right, bottom, brush, tag, data", behind the opcode; "without item 11 it is not looked at" (the tag)
 abbrev pub playAsked : (s front : List ℕ) → Play
-playAsked s front = playWith s (rectangleAt front 4) (le32 front 20)
+playAsked s front = playWith s (termsAt front 4)
 
 -- "answer headerlength headersum viewlength viewsum width rows bits compression topdown red green blue alpha palettesum"
 unfoldable pub lineWith : (status headerlength headersum viewlength viewsum width rows : ℕ) → Layout → (palettesum : ℕ) → List ℕ

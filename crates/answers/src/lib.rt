@@ -31,8 +31,7 @@ pub fn play(surface: &mut [u32], journal: &mut [u8], m: State, s: &[u8], front: 
         (lentOf (take (m .pixels) (now (surface .entry))) (take (m .bytes) (now (journal .entry))) (m .used)) ⌝ }
     ensures { λ r. ⌜ (Rest (m .pixels) (now (surface .entry)) (now (surface .exit))) × (Rest (m .bytes) (now (journal .entry)) (now (journal .exit))) ⌝ }
 {
-    let clip = region::read(front, 4);
-    let brush = words::read_u32(front, 20);
+    let terms = meaning::read_terms(front, 4);
     let pixels = m.pixels;
     let bytes = m.bytes;
     player::play(
@@ -42,8 +41,7 @@ pub fn play(surface: &mut [u32], journal: &mut [u8], m: State, s: &[u8], front: 
         &mut journal[..bytes],
         m.used,
         s,
-        clip,
-        brush,
+        terms,
     )
 }
 

@@ -1,20 +1,23 @@
 -- What the rows of a clipped target are drawn from is there: the target lies on the surface, and its columns are mapped. Assumes nothing.
 use mathlib.Core.Path.{_≡_, sym, ap, _∙_, subst}
 use mathlib.Core.List.{List, []}
-use Prim.Native.Nat.{ℕ, _≤_}
+use Prim.Native.Nat.{ℕ, _+_, _*_, _≤_}
+use native.Mathlib.Nat.{mul-le-mul-left, mul-comm}
 use native.Mathlib.Omega.{arith}
 use lib.ListN.{length, take}
 use lib.Seq.{sets, getD-take, length-take-le}
 use Rattle.words.specs.Bytes.{magnitude32}
 use Rattle.words.proofs.FillLaws.{filled-front}
 use Rattle.judge.specs.declared.Record.{Record}
+use Rattle.judge.specs.Good.{Good}
 use Rattle.region.specs.declared.Target.{Target}
 use Rattle.region.specs.declared.Rectangle.{Rectangle}
 use Rattle.region.specs.Target.{Place, block, placesIn, targetOf}
 use Rattle.region.proofs.TargetLaws.{On, inside, Numbered, numbered, block-none}
 use Rattle.journal.specs.Drawing.{Paint, drawn}
-use Rattle.journal.specs.Records.{bytesOf, saved}
-use Rattle.draw.specs.Ready.{SourceColumns, MaskColumns, Lies, Mapped}
+use Rattle.journal.specs.Records.{stride, bytesOf, saved}
+use Rattle.draw.specs.declared.Plan.{Plan}
+use Rattle.draw.specs.Ready.{Ready, SourceColumns, MaskColumns, Mapped}
 
 -- a target without columns draws nothing
 module _ (w : ℕ) (f : Paint) (t : Target) (e : t .columns .count ≡ 0) (s : List ℕ) where
@@ -29,29 +32,41 @@ module _ (w : ℕ) (f : Paint) (t : Target) (e : t .columns .count ≡ 0) (s : L
   unfolding saved bytesOf
   none-saved j k = ap (λ (ps : List Place). sets j k (bytesOf (saved w f ps s))) (sym no-places)
 
-pub target-lies : (w h : ℕ) (clip : Rectangle) (n : Record) (t : Target) → t ≡ targetOf w h clip (n .bounds) (n .x) (n .y) (n .cx) (n .cy)
-    → w ≤ 4096 → (t .columns .count ≡ 0 → ⊥) → Lies w h n t
-target-lies w h clip n t e l z =
-    let on = subst (λ (t : Target). On w (t .columns) × On h (t .rows)) (sym e) (inside w h clip (n .bounds) (n .x) (n .y) (n .cx) (n .cy)) in
-    let num = subst (λ (t : Target). Numbered (magnitude32 (n .cx)) (t .columns) × Numbered (magnitude32 (n .cy)) (t .rows)) (sym e)
-    (numbered w h clip (n .bounds) (n .x) (n .y) (n .cx) (n .cy)) in
-    let some : 1 ≤ t .columns .count = omega (arith, z) in
+-- a record's clipped target on a surface that passed status 1, and a journal with room for it
+pub ready : (size h : ℕ) (clip : Rectangle) (p : Plan) (s j : List ℕ) → Good size (p .record)
+    → p .target ≡ targetOf (p .width) h clip (p .record .bounds) (p .record .x) (p .record .y) (p .record .cx) (p .record .cy)
+    → p .width ≤ 4096 → h ≤ 4096 → length s ≡ p .width * h
+    → (p .at + p .target .columns .count * p .target .rows .count) * stride ≤ length j → 1 ≤ p .target .columns .count → Ready size p s j
+ready size h clip p s j good e wide high long room some =
+    let w : ℕ = p .width in
+    let r : Record = p .record in
+    let on = subst (λ (t : Target). On w (t .columns) × On h (t .rows)) (sym e) (inside w h clip (r .bounds) (r .x) (r .y) (r .cx) (r .cy)) in
+    let num = subst (λ (t : Target). Numbered (magnitude32 (r .cx)) (t .columns) × Numbered (magnitude32 (r .cy)) (t .rows)) (sym e)
+    (numbered w h clip (r .bounds) (r .x) (r .y) (r .cx) (r .cy)) in
     record {
+      good = good;
+      wide = wide;
       some = some;
-      wide = l;
       columns = on .0 .ends some;
-      lines = on .1 .ends;
+      lines = λ l. omega (arith, on .1 .ends l);
+      pixels = λ l. omega (arith, mul-le-mul-left w (on .1 .ends l), mul-comm w (p .target .rows .at + p .target .rows .count));
       column-numbers = num .0 .last some;
       line-numbers = num .1 .last;
+      records = room;
     }
 
 -- the buffers of columns, as they are filled
-module _ (rec : Record) (t : Target) (d₀ e₀ d e : List ℕ) (a : t .columns .count ≤ length d₀) (b : t .columns .count ≤ length e₀) where
-  pub mapped : SourceColumns rec (t .columns .index) (t .columns .count) d₀ d → MaskColumns rec (t .columns .index) (t .columns .count) e₀ e
-      → Mapped rec t (take (t .columns .count) d) (take (t .columns .count) e)
+module _ (p : Plan) (d₀ e₀ d e : List ℕ) (a : p .target .columns .count ≤ length d₀) (b : p .target .columns .count ≤ length e₀) where
+  abbrev index : ℕ
+  index = p .target .columns .index
+
+  abbrev count : ℕ
+  count = p .target .columns .count
+
+  pub mapped : SourceColumns (p .record) index count d₀ d → MaskColumns (p .record) index count e₀ e → Mapped p (take count d) (take count e)
   mapped f g = record {
-    as-many = length-take-le (t .columns .count) d (omega (arith, f .long));
-    as-many-masks = length-take-le (t .columns .count) e (omega (arith, g .long));
-    source = λ p k l. getD-take (t .columns .count) d k 0 l ∙ filled-front (rec .source .present) (t .columns .count) f p k l;
-    mask = λ p k l. getD-take (t .columns .count) e k 0 l ∙ filled-front (rec .mask .present) (t .columns .count) g p k l;
+    as-many = length-take-le count d (omega (arith, f .long));
+    as-many-masks = length-take-le count e (omega (arith, g .long));
+    source = λ there k l. getD-take count d k 0 l ∙ filled-front (p .record .source .present) count f there k l;
+    mask = λ there k l. getD-take count e k 0 l ∙ filled-front (p .record .mask .present) count g there k l;
   }

@@ -1,4 +1,4 @@
--- What the rows of a play are drawn from. Definitions only.
+-- What the rows of a play are drawn from, and what is left when they are drawn. Definitions only.
 use mathlib.Core.Path.{_≡_}
 use mathlib.Core.Bool.{true, cond}
 use mathlib.Core.List.{List}
@@ -9,30 +9,35 @@ use Rattle.words.specs.Bytes.{magnitude32, signed32}
 use Rattle.words.specs.Filled.{Filled}
 use Rattle.pixel.specs.Place.{maskPixel}
 use Rattle.judge.specs.declared.Record.{Record}
-use Rattle.region.specs.declared.Target.{Target}
+use Rattle.judge.specs.Good.{Good}
 use Rattle.region.specs.Target.{placesIn}
 use Rattle.journal.specs.Drawing.{drawn}
 use Rattle.journal.specs.Records.{stride, bytesOf, saved}
 use Rattle.meaning.specs.Sampling.{sourceColumn}
-use Rattle.meaning.specs.Meaning.{Meaning, paintOn}
+use Rattle.meaning.specs.Meaning.{meaningIn, paintOn}
+use Rattle.draw.specs.declared.Plan.{Plan}
 
--- the target lies on the surface and in the whole target, and has columns
-pub record Lies (width height : ℕ) (r : Record) (t : Target) : Type 0 where
-  pub some : 1 ≤ t .columns .count
-  pub wide : width ≤ 4096
-  pub columns : t .columns .at + t .columns .count ≤ width
-  pub lines : 1 ≤ t .rows .count → t .rows .at + t .rows .count ≤ height
-  pub column-numbers : t .columns .index + t .columns .count ≤ magnitude32 (r .cx)
-  pub line-numbers : 1 ≤ t .rows .count → t .rows .index + t .rows .count ≤ magnitude32 (r .cy)
+-- an accepted record of so many bytes, whose clipped target has columns and lies on the surface and in the whole target, and a journal
+-- with room for its pixels
+pub record Ready (size : ℕ) (p : Plan) (surface journal : List ℕ) : Type 0 where
+  pub good : Good size (p .record)
+  pub wide : p .width ≤ 4096
+  pub some : 1 ≤ p .target .columns .count
+  pub columns : p .target .columns .at + p .target .columns .count ≤ p .width
+  pub lines : 1 ≤ p .target .rows .count → p .target .rows .at + p .target .rows .count ≤ 4096
+  pub pixels : 1 ≤ p .target .rows .count → (p .target .rows .at + p .target .rows .count) * p .width ≤ length surface
+  pub column-numbers : p .target .columns .index + p .target .columns .count ≤ magnitude32 (p .record .cx)
+  pub line-numbers : 1 ≤ p .target .rows .count → p .target .rows .index + p .target .rows .count ≤ magnitude32 (p .record .cy)
+  pub records : (p .at + p .target .columns .count * p .target .rows .count) * stride ≤ length journal
 
 -- the columns of source and mask that the target's columns read, as far as there are such pictures
-pub record Mapped (r : Record) (t : Target) (sourceColumns maskColumns : List ℕ) : Type 0 where
-  pub as-many : length sourceColumns ≡ t .columns .count
-  pub as-many-masks : length maskColumns ≡ t .columns .count
-  pub source : r .source .present ≡ true → (k : ℕ) → k < t .columns .count
-      → getD sourceColumns k 0 ≡ sourceColumn (r .source .x) (r .«cx_src») (r .cx) (t .columns .index + k)
-  pub mask : r .mask .present ≡ true → (k : ℕ) → k < t .columns .count
-      → getD maskColumns k 0 ≡ maskPixel (signed32 (r .mask .x)) (t .columns .index + k) (r .mask .header .width)
+pub record Mapped (p : Plan) (sourceColumns maskColumns : List ℕ) : Type 0 where
+  pub as-many : length sourceColumns ≡ p .target .columns .count
+  pub as-many-masks : length maskColumns ≡ p .target .columns .count
+  pub source : p .record .source .present ≡ true → (k : ℕ) → k < p .target .columns .count
+      → getD sourceColumns k 0 ≡ sourceColumn (p .record .source .x) (p .record .«cx_src») (p .record .cx) (p .target .columns .index + k)
+  pub mask : p .record .mask .present ≡ true → (k : ℕ) → k < p .target .columns .count
+      → getD maskColumns k 0 ≡ maskPixel (signed32 (p .record .mask .x)) (p .target .columns .index + k) (p .record .mask .header .width)
 
 -- a buffer of columns was filled from its front, as far as there is such a picture
 abbrev pub SourceColumns : Record → (index count : ℕ) (before after : List ℕ) → Type 0
@@ -43,14 +48,17 @@ abbrev pub MaskColumns : Record → (index count : ℕ) (before after : List ℕ
 MaskColumns r index count before after =
     Filled (λ k. maskPixel (signed32 (r .mask .x)) (index + k) (r .mask .header .width)) before (cond (r .mask .present) count 0) after
 
--- what is drawn: the target's pixels on the surface, and their old ones in the journal from record `at` on
-abbrev pub drawnOn : (width : ℕ) → Target → Meaning → (brush : ℕ) (surface : List ℕ) → List ℕ
-drawnOn width t k brush surface = drawn width (paintOn t k brush) (placesIn t) surface
+-- buffers for the columns of source and mask and for the pixels and bits of a row, each as long as the row at least
+pub record Buffers (p : Plan) (sourceColumns maskColumns colours bits : List ℕ) : Type 0 where
+  pub for-columns : p .target .columns .count ≤ length sourceColumns
+  pub for-mask-columns : p .target .columns .count ≤ length maskColumns
+  pub for-colours : p .target .columns .count ≤ length colours
+  pub for-bits : p .target .columns .count ≤ length bits
 
-abbrev pub savedIn : (width : ℕ) → Target → Meaning → (brush at : ℕ) (surface journal : List ℕ) → List ℕ
-savedIn width t k brush at surface journal = sets journal (at * stride) (bytesOf (saved width (paintOn t k brush) (placesIn t) surface))
-
--- the surface has its length, and the journal room for the target's pixels from record `at` on
-pub record Room (width height : ℕ) (t : Target) (at : ℕ) (surface journal : List ℕ) : Type 0 where
-  pub pixels : length surface ≡ width * height
-  pub records : (at + t .columns .count * t .rows .count) * stride ≤ length journal
+-- the target's pixels are drawn on the surface as record s means them, and their old ones stand in the journal from the plan's record on
+abbrev pub Drawn : (s : List ℕ) → Plan → (surface journal surfaceAfter journalAfter : List ℕ) → Type 0
+Drawn s p surface journal surfaceAfter journalAfter =
+    let paint = paintOn (p .target) (meaningIn s (p .record)) (p .brush) in
+    let places = placesIn (p .target) in
+    (surfaceAfter ≡ drawn (p .width) paint places surface)
+    × (journalAfter ≡ sets journal (p .at * stride) (bytesOf (saved (p .width) paint places surface)))

@@ -7,11 +7,9 @@ use lib.Dec.{eqb}
 use lib.ListN.{length, getD}
 use Rattle.words.specs.Filled.{Filled}
 use Rattle.pixel.specs.Place.{isDepth}
-use Rattle.pixel.specs.Widen.{Widens}
 use Rattle.dib.specs.declared.Masks.{Masks}
 use Rattle.sample.specs.Stored.{stored}
 use Rattle.sample.specs.Colour.{Sampled, shown}
-use Rattle.sample.specs.At.{Colours}
 
 -- the pixel that column k of the row shows: `line` holds the source row's bytes, `columns` the source columns in the target's order
 unfoldable pub fetched : (bits : ℕ) (palette : List ℕ) → Masks → (line columns : List ℕ) (k : ℕ) → ℕ
@@ -41,11 +39,6 @@ pub record Readable (bits : ℕ) (m : Masks) : Type 0 where
   pub depth : isDepth bits ≡ true
   pub sampled : 8 < bits → Sampled m
   pub bytes : bits ≡ 24 → m ≡ byteMasks 0
-
--- the table that widens, and a palette
-pub record Tables (t palette : List ℕ) : Type 0 where
-  pub widens : Widens t
-  pub colours : Colours palette
 
 -- up to 8 bits no mask is looked at, and above no palette
 abbrev pub noMasks : Masks

@@ -4,27 +4,18 @@ ghost use mathlib.Core.List.{[]};
 ghost use Prim.Native.Nat.{_+_, _*_, _^_, _<_};
 ghost use lib.ListN.{length, getD};
 ghost use Rattle.words.specs.Filled.{Filled};
-ghost use Rattle.pixel.specs.Widen.{Widens};
 ghost use Rattle.sample.specs.At.{Colours};
 ghost use Rattle.sample.specs.Colour.{Sampled};
-ghost use Rattle.fetch.specs.Fetched.{fetched, Fetches, InRow, Readable, Tables, noMasks, sameMasks};
+ghost use Rattle.fetch.specs.Fetched.{fetched, Fetches, InRow, Readable, noMasks, sameMasks};
 use dib::Masks;
 
 mod common;
 
 // Fills the front of `out` with the source pixels of `columns`, from the bytes of their row.
-pub fn row(
-    t: &[u8; 510],
-    bits: u32,
-    palette: &[u32; 256],
-    m: Masks,
-    line: &[u8],
-    columns: &[u32],
-    out: &mut [u32],
-)
+pub fn row(bits: u32, palette: &[u32; 256], m: Masks, line: &[u8], columns: &[u32], out: &mut [u32])
     requires { ⌜ Readable bits m ⌝ }
     requires { ⌜ InRow bits (now line) (now columns) (now out) ⌝ }
-    requires { ⌜ Tables (now t) (now palette) ⌝ }
+    requires { ⌜ Colours (now palette) ⌝ }
     ensures { λ _. ⌜ Filled (fetched bits (now (palette .entry)) m (now (line .entry)) (now (columns .entry)))
         (now (out .entry)) (length (now (columns .entry))) (now (out .exit)) ⌝ }
 {
@@ -41,14 +32,14 @@ pub fn row(
         return;
     }
     if bits == 16 {
-        masked16(t, m, line, columns, out);
+        masked16(m, line, columns, out);
         return;
     }
     if bits == 24 {
         common::opaque24(line, columns, out);
         return;
     }
-    row32(t, m, line, columns, out);
+    row32(m, line, columns, out);
 }
 
 // 1 bit.
@@ -94,25 +85,24 @@ fn eight_bits(palette: &[u32; 256], line: &[u8], columns: &[u32], out: &mut [u32
 }
 
 // 16 bits, by any masks.
-fn masked16(t: &[u8; 510], m: Masks, line: &[u8], columns: &[u32], out: &mut [u32])
+fn masked16(m: Masks, line: &[u8], columns: &[u32], out: &mut [u32])
     requires { ⌜ InRow 16 (now line) (now columns) (now out) ⌝ }
     requires { ⌜ Sampled m ⌝ }
-    requires { ⌜ Widens (now t) ⌝ }
     ensures { λ _. ⌜ Fetches 16 [] m (now (line .entry)) (now (columns .entry)) (now (out .entry)) (now (out .exit)) ⌝ }
 {
+    let table = pixel::widen::table();
     let mut i = 0;
     while i < columns.len() {
         let column = column_at(columns, i);
-        out[i] = sample::colour::masked(t, m, words::load_u16(line, column * 2));
+        out[i] = sample::colour::masked(&table, m, words::load_u16(line, column * 2));
         i += 1;
     }
 }
 
 // 32 bits: the masks choose the loop.
-fn row32(t: &[u8; 510], m: Masks, line: &[u8], columns: &[u32], out: &mut [u32])
+fn row32(m: Masks, line: &[u8], columns: &[u32], out: &mut [u32])
     requires { ⌜ InRow 32 (now line) (now columns) (now out) ⌝ }
     requires { ⌜ Sampled m ⌝ }
-    requires { ⌜ Widens (now t) ⌝ }
     ensures { λ _. ⌜ Fetches 32 [] m (now (line .entry)) (now (columns .entry)) (now (out .entry)) (now (out .exit)) ⌝ }
 {
     if same(m, common::bytes(0)) {
@@ -123,20 +113,20 @@ fn row32(t: &[u8; 510], m: Masks, line: &[u8], columns: &[u32], out: &mut [u32])
         common::whole32(line, columns, out);
         return;
     }
-    masked32(t, m, line, columns, out);
+    masked32(m, line, columns, out);
 }
 
 // 32 bits, by any masks.
-fn masked32(t: &[u8; 510], m: Masks, line: &[u8], columns: &[u32], out: &mut [u32])
+fn masked32(m: Masks, line: &[u8], columns: &[u32], out: &mut [u32])
     requires { ⌜ InRow 32 (now line) (now columns) (now out) ⌝ }
     requires { ⌜ Sampled m ⌝ }
-    requires { ⌜ Widens (now t) ⌝ }
     ensures { λ _. ⌜ Fetches 32 [] m (now (line .entry)) (now (columns .entry)) (now (out .entry)) (now (out .exit)) ⌝ }
 {
+    let table = pixel::widen::table();
     let mut i = 0;
     while i < columns.len() {
         let column = column_at(columns, i);
-        out[i] = sample::colour::masked(t, m, words::load_u32(line, column * 4));
+        out[i] = sample::colour::masked(&table, m, words::load_u32(line, column * 4));
         i += 1;
     }
 }

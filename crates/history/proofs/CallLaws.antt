@@ -11,8 +11,8 @@ use lib.Dec.{eqb, leb}
 use borrow.Author.Tests.{eq-eqb, ne-eqb, le-leb, lt-leb, leb-true}
 use Rattle.words.specs.Bytes.{le32}
 use Rattle.words.proofs.ChoiceLaws.{cond-true, cond-false, and-by-second, and-by-first, and-both}
-use Rattle.region.specs.declared.Rectangle.{Rectangle}
-use Rattle.region.specs.Written.{rectangleAt}
+use Rattle.meaning.specs.declared.Terms.{Terms}
+use Rattle.meaning.specs.Meaning.{termsAt}
 use Rattle.lent.specs.Lent.{Lent, lent, Outcome}
 use Rattle.lent.specs.Undoing.{undoOf}
 use Rattle.player.specs.declared.Answer.{Answer}
@@ -98,9 +98,9 @@ module _ (l : List ℕ) (at : ℕ) where
 
   -- ---- the play that `play_at` reads
 
-  pub play-read : (o : Outcome) (w h : ℕ) (m : Lent) (clip : Rectangle) (brush n : ℕ) (s : List ℕ) → o ≡ play w h (playWith s clip brush) m
-      → clip ≡ rectangleAt l (at + 4) → brush ≡ le32 l (at + 20) → n ≡ le32 l (at + 28) → s ≡ take n (drop (at + 32) l) → o ≡ play w h (playAt l at) m
-  play-read o w h m clip brush n s q ec eb en es = cc
+  pub play-read : (o : Outcome) (w h : ℕ) (m : Lent) (terms : Terms) (n : ℕ) (s : List ℕ) → o ≡ play w h (playWith s terms) m
+      → terms ≡ termsAt l (at + 4) → n ≡ le32 l (at + 28) → s ≡ take n (drop (at + 32) l) → o ≡ play w h (playAt l at) m
+  play-read o w h m terms n s q et en es = cc
 
   -- ---- the ways through `call`
 

@@ -10,7 +10,7 @@ use lib.Seq.{sets}
 use lib.Dec.{eqb, leb, ltb}
 use Rattle.words.specs.Bytes.{partOf, le32}
 use Rattle.words.specs.Status.{given, orElse}
-use Rattle.region.specs.Written.{rectangleAt}
+use Rattle.meaning.specs.Meaning.{termsAt}
 use Rattle.lent.specs.Lent.{lent, lentStatus, records}
 use Rattle.player.specs.Calls.{Play, playWith}
 use Rattle.history.specs.Pile.{Call, playing, undoing, Answered, pile, surfaceOf, roomOf, pileAnswers, pileAfter}
@@ -27,7 +27,7 @@ callLength l at =
     (cond (eqb (le32 l at) 2 && leb (at + 4) (length l)) 4 0)
 
 abbrev pub playAt : (list : List ℕ) (at : ℕ) → Play
-playAt l at = playWith (partOf l (at + 32) (le32 l (at + 28))) (rectangleAt l (at + 4)) (le32 l (at + 20))
+playAt l at = playWith (partOf l (at + 32) (le32 l (at + 28))) (termsAt l (at + 4))
 
 -- the call at a place
 unfoldable pub callAt : (list : List ℕ) (at : ℕ) → Call

@@ -97,11 +97,10 @@ fn play_at(
     requires { ⌜ at + (32 + padded (le32 (now list) (at + 28))) ≤ length (now list) ⌝ }
     ensures { λ r. ⌜ left r (now (surface .exit)) (now (journal .exit)) ≡ play width height (playAt (now (list .entry)) at) (lent (now (surface .entry)) (now (journal .entry)) used) ⌝ }
 {
-    let clip = region::read(list, at + 4);
-    let brush = words::read_u32(list, at + 20);
+    let terms = meaning::read_terms(list, at + 4);
     let count = words::read_u32(list, at + 28) as usize;
     let s = words::part(list, at + 32, count);
-    player::play(surface, width, height, journal, used, s, clip, brush)
+    player::play(surface, width, height, journal, used, s, terms)
 }
 
 // Makes the call at a place of the list.

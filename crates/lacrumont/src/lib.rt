@@ -5,6 +5,7 @@ ghost use Rattle.lent.specs.Undoing.{undoOf};
 ghost use Rattle.reading.specs.Reading.{readingOf, readPalette};
 ghost use Rattle.lacrumont.specs.Numbers.{asksMask, numbersIn};
 ghost use Rattle.player.specs.Calls.{playWith, play as playing};
+use meaning::Terms;
 use region::Rectangle;
 
 // Plays record s onto the surface. `used` is the journal's records in use, before and after; `pixels` gets the number drawn.
@@ -24,7 +25,7 @@ pub extern "C" fn lacrumont_play(
     pixels: &mut u32,
 ) -> u32
     ensures { λ r. ⌜ outcome r (now (pixels .exit)) (lent (now (surface .exit)) (now (journal .exit)) (now (used .exit)))
-        ≡ playing width height (playWith (now (s .entry)) (record { left = left; top = top; right = right; bottom = bottom }) brush)
+        ≡ playing width height (playWith (now (s .entry)) (record { clip = record { left = left; top = top; right = right; bottom = bottom }; brush = brush }))
         (lent (now (surface .entry)) (now (journal .entry)) (now (used .entry))) ⌝ }
 {
     let clip = Rectangle {
@@ -33,8 +34,9 @@ pub extern "C" fn lacrumont_play(
         right,
         bottom,
     };
+    let terms = Terms { clip, brush };
     let before = *used;
-    let a = player::play(surface, width, height, journal, before, s, clip, brush);
+    let a = player::play(surface, width, height, journal, before, s, terms);
     *used = a.used;
     *pixels = a.pixels;
     a.status

@@ -1,6 +1,7 @@
 -- What an accepted record means, as a value: drawing is defined on it and never looks at the record's bytes. Definitions only.
-use Prim.Native.Nat.{ℕ}
+use Prim.Native.Nat.{ℕ, _+_}
 use mathlib.Core.List.{List}
+use Rattle.words.specs.Bytes.{le32}
 use Rattle.judge.specs.declared.Action.{Action}
 use Rattle.judge.specs.declared.Action.the-variants as act
 use Rattle.judge.specs.declared.Record.{Record}
@@ -8,11 +9,13 @@ use Rattle.judge.specs.Record.{recordOf}
 use Rattle.region.specs.declared.Target.{Target}
 use Rattle.region.specs.declared.Rectangle.{Rectangle}
 use Rattle.region.specs.Axis.{within}
+use Rattle.region.specs.Written.{rectangleAt}
 use Rattle.region.specs.Target.{targetOf, placesIn}
 use Rattle.journal.specs.Drawing.{Paint, Work}
 use Rattle.paint.specs.declared.Rule.{Rule}
 use Rattle.paint.specs.declared.Rule.the-variants.{Blend0, Blend1, Raster, Masked}
 use Rattle.paint.specs.Paints.{paintedBy}
+use Rattle.meaning.specs.declared.Terms.{Terms}
 use Rattle.meaning.specs.Sampling.{sourcePixel, maskBit}
 
 pub record Meaning : Type 0 where
@@ -52,6 +55,10 @@ meaningIn s r = record {
 unfoldable pub meaningOf : List ℕ → Meaning
 meaningOf s = meaningIn s (recordOf s)
 
+-- a play's terms as numbers of some bytes: the clip, then the brush
+abbrev pub termsAt : (s : List ℕ) (at : ℕ) → Terms
+termsAt s at = record { clip = rectangleAt s at; brush = le32 s (at + 16) }
+
 -- ---- drawing it
 
 -- what a pixel of the clipped target t becomes
@@ -63,9 +70,9 @@ abbrev pub targetIn : (width height : ℕ) → Meaning → (clip : Rectangle) �
 targetIn width height k clip = targetOf width height clip (k .bounds) (k .x) (k .y) (k .cx) (k .cy)
 
 -- the pixels that a play of it counts, and what each becomes
-unfoldable pub workOf : (width height : ℕ) → Meaning → (clip : Rectangle) (brush : ℕ) → Work
-workOf width height k clip brush = record {
-  places = placesIn (targetIn width height k clip);
-  paint = paintOn (targetIn width height k clip) k brush;
+unfoldable pub workOf : (width height : ℕ) → Meaning → Terms → Work
+workOf width height k o = record {
+  places = placesIn (targetIn width height k (o .clip));
+  paint = paintOn (targetIn width height k (o .clip)) k (o .brush);
   kind = k .kind;
 }

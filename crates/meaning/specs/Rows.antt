@@ -10,7 +10,7 @@ use Rattle.pixel.specs.Place.{maskPixel}
 use Rattle.dib.specs.declared.Masks.{Masks}
 use Rattle.dib.specs.Header.{rows}
 use Rattle.sample.specs.Colour.{masksIn}
-use Rattle.fetch.specs.Fetched.{Tables}
+use Rattle.sample.specs.At.{Colours}
 use Rattle.judge.specs.declared.Record.{Record}
 use Rattle.judge.specs.Good.{Good}
 use Rattle.picture.specs.Shown.{picturePalette}
@@ -30,10 +30,10 @@ abbrev pub MaskFilled : (s : List ℕ) → Record → (j : ℕ) (columns before 
 MaskFilled s r j columns before after =
     Filled (λ k. maskShown s r (getD columns k 0) (maskPixel (signed32 (r .mask .y)) j (rows (r .mask .header)))) before (length columns) after
 
-pub record SourceRow (s : List ℕ) (r : Record) (m : Masks) (table palette columns : List ℕ) : Type 0 where
+pub record SourceRow (s : List ℕ) (r : Record) (m : Masks) (palette columns : List ℕ) : Type 0 where
   pub good : Good (length s) r
   pub masks : m ≡ masksIn (r .source .header) (isFormat1 (r .action))
-  pub tables : Tables table palette
+  pub colours : Colours palette
   pub shows : palette ≡ picturePalette s (r .source)
   pub inside : r .source .present ≡ true → InPicture (r .source .header .width) columns
 

@@ -48,13 +48,12 @@ pub fn of_source(
     s: &[u8],
     r: Record,
     m: Masks,
-    t: &[u8; 510],
     palette: &[u32; 256],
     columns: &[u32],
     j: u32,
     out: &mut [u32],
 )
-    requires { ⌜ SourceRow (now s) r m (now t) (now palette) (now columns) ⌝ }
+    requires { ⌜ SourceRow (now s) r m (now palette) (now columns) ⌝ }
     requires { ⌜ (j < magnitude32 (r .cy)) × (length (now columns) ≤ length (now out)) ⌝ }
     ensures { λ _. ⌜ SourceFilled (now (s .entry)) r j (now (columns .entry)) (now (out .entry)) (now (out .exit)) ⌝ }
 {
@@ -62,7 +61,7 @@ pub fn of_source(
     if p.present {
         let row = crate::columns::source_column(p.y, r.cy_src, r.cy, j);
         let line = picture::row(s, p, row);
-        fetch::row(t, p.header.bits, palette, m, line, columns, out);
+        fetch::row(p.header.bits, palette, m, line, columns, out);
         return;
     }
     clear(out, columns.len());

@@ -1,12 +1,17 @@
 -- What a pixel becomes, by the play's rule. Definitions only.
+use mathlib.Core.Path.{_≡_}
 use mathlib.Core.Bool.{cond}
-use Prim.Native.Nat.{ℕ, _-_}
+use Prim.Native.Nat.{ℕ, _-_, _*_}
 use mathlib.Core.List.{List}
-use lib.ListN.{getD}
+use lib.ListN.{length, getD}
+use lib.Seq.{sets}
 use lib.Dec.{eqb}
 use Rattle.pixel.specs.Blend.{over0, over1}
 use Rattle.pixel.specs.Raster.{rasterPixel}
-use Rattle.journal.specs.Drawing.{Paint}
+use Rattle.region.specs.Target.{row}
+use Rattle.journal.specs.Drawing.{Paint, drawn}
+use Rattle.journal.specs.Records.{stride, bytesOf, saved}
+use Rattle.paint.specs.declared.Start.{Start}
 use Rattle.paint.specs.declared.Rule.{Rule}
 use Rattle.paint.specs.declared.Rule.the-variants.{Blend0, Blend1, Raster, Masked}
 
@@ -22,3 +27,10 @@ paintedBy (Masked foreground background brush) source bit old =
 -- a row's source pixels and mask bits begin at column x
 abbrev pub rowPaint : Rule → (colours bits : List ℕ) (x : ℕ) → Paint
 rowPaint rule colours bits x old column row = paintedBy rule (getD colours (column - x) 0) (getD bits (column - x) 0) old
+
+-- a row that starts so, painted: its pixels are drawn on the surface, and their old ones saved in the journal
+abbrev pub Painted : (width : ℕ) → Start → Rule → (colours bits surface journal surfaceAfter journalAfter : List ℕ) → Type 0
+Painted width p rule colours bits surface journal surfaceAfter journalAfter =
+    let paint = rowPaint rule colours bits (p .x) in
+    let places = row (p .x) (length colours) (p .y) in
+    (surfaceAfter ≡ drawn width paint places surface) × (journalAfter ≡ sets journal (p .at * stride) (bytesOf (saved width paint places surface)))

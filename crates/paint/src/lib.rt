@@ -4,11 +4,8 @@ ghost use mathlib.Core.Path.{_≡_};
 ghost use Prim.Native.Nat.{_+_, _*_, _≤_};
 ghost use mathlib.Core.List.{[]};
 ghost use lib.ListN.{length};
-ghost use lib.Seq.{sets};
-ghost use Rattle.region.specs.Target.{row as placesOfRow};
-ghost use Rattle.journal.specs.Drawing.{drawn};
-ghost use Rattle.journal.specs.Records.{stride, bytesOf, saved};
-ghost use Rattle.paint.specs.Paints.{paintedBy, rowPaint};
+ghost use Rattle.journal.specs.Records.{stride};
+ghost use Rattle.paint.specs.Paints.{paintedBy, Painted};
 
 // What a pixel becomes: blended in alpha format 0 or 1 at a constant alpha, by a raster operation and a brush, or by one of two
 // raster operations (foreground, background) as the mask's bit says.
@@ -19,36 +16,38 @@ pub enum Rule {
     Masked(u8, u8, u32),
 }
 
-// Draws a row. Its source pixels and mask bits are those of the columns from x on; the records go to the journal from record
-// `at` on.
+// Where a row begins: its first record in the journal, and its first pixel's column and row.
+pub struct Start {
+    pub at: usize,
+    pub x: u32,
+    pub y: u32,
+}
+
+// Draws a row: a pixel for each of the source pixels and mask bits.
 pub fn row(
     surface: &mut [u32],
     width: u32,
     journal: &mut [u8],
-    at: usize,
-    x: u32,
-    y: u32,
+    p: Start,
     colours: &[u32],
     bits: &[u8],
     rule: Rule,
 )
-    requires { ⌜ (x + length (now colours) ≤ width) × (length (now colours) ≤ length (now bits)) ⌝ }
-    requires { ⌜ y * width + width ≤ length (now surface) ⌝ }
-    requires { ⌜ (at + length (now colours)) * stride ≤ length (now journal) ⌝ }
-    ensures { λ _. ⌜ now (surface .exit) ≡ drawn width (rowPaint rule (now (colours .entry)) (now (bits .entry)) x) (placesOfRow x (length (now (colours .entry))) y) (now (surface .entry)) ⌝ }
-    ensures { λ _. ⌜ now (journal .exit) ≡ sets (now (journal .entry)) (at * stride) (bytesOf (saved width (rowPaint rule (now (colours .entry)) (now (bits .entry)) x) (placesOfRow x (length (now (colours .entry))) y) (now (surface .entry)))) ⌝ }
+    requires { ⌜ (p .x + length (now colours) ≤ width) × (length (now colours) ≤ length (now bits)) ⌝ }
+    requires { ⌜ p .y * width + width ≤ length (now surface) ⌝ }
+    requires { ⌜ (p .at + length (now colours)) * stride ≤ length (now journal) ⌝ }
+    ensures { λ _. ⌜ Painted width p rule (now (colours .entry)) (now (bits .entry))
+        (now (surface .entry)) (now (journal .entry)) (now (surface .exit)) (now (journal .exit)) ⌝ }
 {
     match rule {
-        Rule::Blend0(c) => over0(surface, width, journal, at, x, y, colours, c),
-        Rule::Blend1(c) => over1(surface, width, journal, at, x, y, colours, c),
-        Rule::Raster(op, brush) => raster(surface, width, journal, at, x, y, colours, op, brush),
+        Rule::Blend0(c) => over0(surface, width, journal, p, colours, c),
+        Rule::Blend1(c) => over1(surface, width, journal, p, colours, c),
+        Rule::Raster(op, brush) => raster(surface, width, journal, p, colours, op, brush),
         Rule::Masked(foreground, background, brush) => masked(
             surface,
             width,
             journal,
-            at,
-            x,
-            y,
+            p,
             colours,
             bits,
             foreground,
@@ -58,22 +57,16 @@ pub fn row(
     }
 }
 
-fn over0(
-    surface: &mut [u32],
-    width: u32,
-    journal: &mut [u8],
-    at: usize,
-    x: u32,
-    y: u32,
-    colours: &[u32],
-    c: u8,
-)
-    requires { ⌜ x + length (now colours) ≤ width ⌝ }
-    requires { ⌜ y * width + width ≤ length (now surface) ⌝ }
-    requires { ⌜ (at + length (now colours)) * stride ≤ length (now journal) ⌝ }
-    ensures { λ _. ⌜ now (surface .exit) ≡ drawn width (rowPaint (Rule.Blend0 c) (now (colours .entry)) [] x) (placesOfRow x (length (now (colours .entry))) y) (now (surface .entry)) ⌝ }
-    ensures { λ _. ⌜ now (journal .exit) ≡ sets (now (journal .entry)) (at * stride) (bytesOf (saved width (rowPaint (Rule.Blend0 c) (now (colours .entry)) [] x) (placesOfRow x (length (now (colours .entry))) y) (now (surface .entry)))) ⌝ }
+fn over0(surface: &mut [u32], width: u32, journal: &mut [u8], p: Start, colours: &[u32], c: u8)
+    requires { ⌜ p .x + length (now colours) ≤ width ⌝ }
+    requires { ⌜ p .y * width + width ≤ length (now surface) ⌝ }
+    requires { ⌜ (p .at + length (now colours)) * stride ≤ length (now journal) ⌝ }
+    ensures { λ _. ⌜ Painted width p (Rule.Blend0 c) (now (colours .entry)) []
+        (now (surface .entry)) (now (journal .entry)) (now (surface .exit)) (now (journal .exit)) ⌝ }
 {
+    let at = p.at;
+    let x = p.x;
+    let y = p.y;
     let start = y as usize * width as usize + x as usize;
     let mut i = 0;
     while i < colours.len() {
@@ -85,22 +78,16 @@ fn over0(
     }
 }
 
-fn over1(
-    surface: &mut [u32],
-    width: u32,
-    journal: &mut [u8],
-    at: usize,
-    x: u32,
-    y: u32,
-    colours: &[u32],
-    c: u8,
-)
-    requires { ⌜ x + length (now colours) ≤ width ⌝ }
-    requires { ⌜ y * width + width ≤ length (now surface) ⌝ }
-    requires { ⌜ (at + length (now colours)) * stride ≤ length (now journal) ⌝ }
-    ensures { λ _. ⌜ now (surface .exit) ≡ drawn width (rowPaint (Rule.Blend1 c) (now (colours .entry)) [] x) (placesOfRow x (length (now (colours .entry))) y) (now (surface .entry)) ⌝ }
-    ensures { λ _. ⌜ now (journal .exit) ≡ sets (now (journal .entry)) (at * stride) (bytesOf (saved width (rowPaint (Rule.Blend1 c) (now (colours .entry)) [] x) (placesOfRow x (length (now (colours .entry))) y) (now (surface .entry)))) ⌝ }
+fn over1(surface: &mut [u32], width: u32, journal: &mut [u8], p: Start, colours: &[u32], c: u8)
+    requires { ⌜ p .x + length (now colours) ≤ width ⌝ }
+    requires { ⌜ p .y * width + width ≤ length (now surface) ⌝ }
+    requires { ⌜ (p .at + length (now colours)) * stride ≤ length (now journal) ⌝ }
+    ensures { λ _. ⌜ Painted width p (Rule.Blend1 c) (now (colours .entry)) []
+        (now (surface .entry)) (now (journal .entry)) (now (surface .exit)) (now (journal .exit)) ⌝ }
 {
+    let at = p.at;
+    let x = p.x;
+    let y = p.y;
     let start = y as usize * width as usize + x as usize;
     let mut i = 0;
     while i < colours.len() {
@@ -116,19 +103,20 @@ fn raster(
     surface: &mut [u32],
     width: u32,
     journal: &mut [u8],
-    at: usize,
-    x: u32,
-    y: u32,
+    p: Start,
     colours: &[u32],
     op: u8,
     brush: u32,
 )
-    requires { ⌜ x + length (now colours) ≤ width ⌝ }
-    requires { ⌜ y * width + width ≤ length (now surface) ⌝ }
-    requires { ⌜ (at + length (now colours)) * stride ≤ length (now journal) ⌝ }
-    ensures { λ _. ⌜ now (surface .exit) ≡ drawn width (rowPaint (Rule.Raster op brush) (now (colours .entry)) [] x) (placesOfRow x (length (now (colours .entry))) y) (now (surface .entry)) ⌝ }
-    ensures { λ _. ⌜ now (journal .exit) ≡ sets (now (journal .entry)) (at * stride) (bytesOf (saved width (rowPaint (Rule.Raster op brush) (now (colours .entry)) [] x) (placesOfRow x (length (now (colours .entry))) y) (now (surface .entry)))) ⌝ }
+    requires { ⌜ p .x + length (now colours) ≤ width ⌝ }
+    requires { ⌜ p .y * width + width ≤ length (now surface) ⌝ }
+    requires { ⌜ (p .at + length (now colours)) * stride ≤ length (now journal) ⌝ }
+    ensures { λ _. ⌜ Painted width p (Rule.Raster op brush) (now (colours .entry)) []
+        (now (surface .entry)) (now (journal .entry)) (now (surface .exit)) (now (journal .exit)) ⌝ }
 {
+    let at = p.at;
+    let x = p.x;
+    let y = p.y;
     let start = y as usize * width as usize + x as usize;
     let mut i = 0;
     while i < colours.len() {
@@ -144,22 +132,23 @@ fn masked(
     surface: &mut [u32],
     width: u32,
     journal: &mut [u8],
-    at: usize,
-    x: u32,
-    y: u32,
+    p: Start,
     colours: &[u32],
     bits: &[u8],
     foreground: u8,
     background: u8,
     brush: u32,
 )
-    requires { ⌜ x + length (now colours) ≤ width ⌝ }
+    requires { ⌜ p .x + length (now colours) ≤ width ⌝ }
     requires { ⌜ length (now colours) ≤ length (now bits) ⌝ }
-    requires { ⌜ y * width + width ≤ length (now surface) ⌝ }
-    requires { ⌜ (at + length (now colours)) * stride ≤ length (now journal) ⌝ }
-    ensures { λ _. ⌜ now (surface .exit) ≡ drawn width (rowPaint (Rule.Masked foreground background brush) (now (colours .entry)) (now (bits .entry)) x) (placesOfRow x (length (now (colours .entry))) y) (now (surface .entry)) ⌝ }
-    ensures { λ _. ⌜ now (journal .exit) ≡ sets (now (journal .entry)) (at * stride) (bytesOf (saved width (rowPaint (Rule.Masked foreground background brush) (now (colours .entry)) (now (bits .entry)) x) (placesOfRow x (length (now (colours .entry))) y) (now (surface .entry)))) ⌝ }
+    requires { ⌜ p .y * width + width ≤ length (now surface) ⌝ }
+    requires { ⌜ (p .at + length (now colours)) * stride ≤ length (now journal) ⌝ }
+    ensures { λ _. ⌜ Painted width p (Rule.Masked foreground background brush) (now (colours .entry)) (now (bits .entry))
+        (now (surface .entry)) (now (journal .entry)) (now (surface .exit)) (now (journal .exit)) ⌝ }
 {
+    let at = p.at;
+    let x = p.x;
+    let y = p.y;
     let start = y as usize * width as usize + x as usize;
     let mut i = 0;
     while i < colours.len() {

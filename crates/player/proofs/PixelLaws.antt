@@ -50,12 +50,12 @@ pub pixel-by-pixel : PixelByPixel
 unfolding work workOf
 pixel-by-pixel w h p s e =
     let k : Meaning = meaningOf (p .bytes) in
-    let t : Target = targetIn w h k (p .clip) in
-    let on : On w (t .columns) × On h (t .rows) = inside w h (p .clip) (k .bounds) (k .x) (k .y) (k .cx) (k .cy) in
-    let f : Paint = paintOn t k (p .brush) in
+    let t : Target = targetIn w h k (p .terms .clip) in
+    let on : On w (t .columns) × On h (t .rows) = inside w h (p .terms .clip) (k .bounds) (k .x) (k .y) (k .cx) (k .cy) in
+    let f : Paint = paintOn t k (p .terms .brush) in
     record {
       inside = covered w h f t on s e;
-      target = target-exact w h (p .bytes) (p .clip);
+      target = target-exact w h (p .bytes) (p .terms .clip);
       outside = not-covered w h f t on s;
       records = saved-before w f (t .columns .at) (t .columns .count) (t .rows .at) (t .rows .count) s (on .0 .ends);
       count = length-places t;

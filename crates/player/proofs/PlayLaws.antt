@@ -28,8 +28,11 @@ use Rattle.journal.specs.Records.{stride, entryBytes, bytesOf, saved, closing}
 use Rattle.journal.proofs.RecordLaws.{length-bytes, bytes-append, length-saved}
 use Rattle.lent.specs.Lent.{lent, Outcome, outcome, settle, limits}
 use Rattle.lent.specs.Playing.{counted, drawnBy, appended, played, roomStatus, playOf}
-use Rattle.lent.proofs.LimitLaws.{Passed, passed}
+use Rattle.lent.proofs.LimitLaws.{passed}
+use Rattle.meaning.specs.declared.Terms.{Terms}
 use Rattle.meaning.specs.Meaning.{meaningIn, meaningOf, paintOn, workOf}
+use Rattle.draw.specs.declared.Plan.{Plan}
+use Rattle.draw.specs.Ready.{Drawn}
 use Rattle.player.specs.declared.Answer.{Answer}
 use Rattle.player.specs.Calls.{playWith, work, play, accepted}
 use Rattle.player.specs.Left.{left, refusal}
@@ -68,22 +71,22 @@ module _ (w : ℕ) (k : Work) (s j : List ℕ) (u p : ℕ) (e : counted k ≡ p)
 
 -- ---- an accepted record
 
-module _ (w h : ℕ) (s j : List ℕ) (u : ℕ) (r : List ℕ) (n : Record) (clip : Rectangle) (brush : ℕ) (t : Target)
-    (f : limits w h (length s) (length j) u ≡ 0) (e : t ≡ targetOf w h clip (n .bounds) (n .x) (n .y) (n .cx) (n .cy)) where
-  limits-passed : Passed w h (length s) (length j) u
-  limits-passed = passed w h (length s) (length j) u f
+-- a clipped target has no more pixels than the largest surface
+pub pixels-few : (w h a b u : ℕ) (clip : Rectangle) (n : Record) (t : Target) → limits w h a b u ≡ 0
+    → t ≡ targetOf w h clip (n .bounds) (n .x) (n .y) (n .cx) (n .cy) → t .columns .count * t .rows .count ≤ 16777216
+pixels-few w h a b u clip n t f e =
+    let on = subst (λ (t : Target). On w (t .columns) × On h (t .rows)) (sym e) (inside w h clip (n .bounds) (n .x) (n .y) (n .cx) (n .cy)) in
+    let sides = passed w h a b u f in
+    let columns : t .columns .count ≤ 4096 = omega (arith, on .0 .most, sides .wide .1) in
+    let lines : t .rows .count ≤ 4096 = omega (arith, on .1 .most, sides .high .1) in
+    mul-le-mul columns lines
 
-  pub pixels-few : t .columns .count * t .rows .count ≤ 16777216
-  pixels-few =
-      let on = subst (λ (t : Target). On w (t .columns) × On h (t .rows)) (sym e) (inside w h clip (n .bounds) (n .x) (n .y) (n .cx) (n .cy)) in
-      let a : t .columns .count ≤ 4096 = omega (arith, on .0 .most, limits-passed .wide .1) in
-      let b : t .rows .count ≤ 4096 = omega (arith, on .1 .most, limits-passed .high .1) in
-      mul-le-mul a b
-
+module _ (w h : ℕ) (s j : List ℕ) (u : ℕ) (r : List ℕ) (n : Record) (o : Terms) (t : Target)
+    (f : limits w h (length s) (length j) u ≡ 0) (e : t ≡ targetOf w h (o .clip) (n .bounds) (n .x) (n .y) (n .cx) (n .cy)) where
   abbrev workOn : Target → Work
-  workOn t = record { places = placesIn t; paint = paintOn t (meaningIn r n) brush; kind = n .kind }
+  workOn t = record { places = placesIn t; paint = paintOn t (meaningIn r n) (o .brush); kind = n .kind }
 
-  work-is : workOn t ≡ workOf w h (meaningIn r n) clip brush
+  work-is : workOn t ≡ workOf w h (meaningIn r n) o
   unfolding workOf
   work-is = ap workOn e
 
@@ -91,18 +94,20 @@ module _ (w h : ℕ) (s j : List ℕ) (u : ℕ) (r : List ℕ) (n : Record) (cli
   count-is = length-places t ∙ mul-comm (t .rows .count) (t .columns .count)
 
   pub play-full : (a : Answer) → length j / stride - u < t .columns .count * t .rows .count + 1 → a ≡ refusal 14 u
-      → left a s j ≡ accepted w (workOf w h (meaningIn r n) clip brush) (lent s j u)
+      → left a s j ≡ accepted w (workOf w h (meaningIn r n) o) (lent s j u)
   play-full a l q =
       ap (λ (a : Answer). left a s j) q ∙ no-room w (workOn t) s j u _ count-is l ∙ ap (λ (k : Work). accepted w k (lent s j u)) work-is
 
-  pub play-drawn : t .columns .count * t .rows .count + 1 ≤ length j / stride - u → (s1 j1 j2 : List ℕ)
-      → s1 ≡ drawn w (paintOn t (meaningIn r n) brush) (placesIn t) s
-      → j1 ≡ sets j (u * stride) (bytesOf (saved w (paintOn t (meaningIn r n) brush) (placesIn t) s))
+  -- the rows are drawn by the plan that the code makes
+  abbrev plan : Plan
+  plan = record { width = w; at = u; «record» = n; target = t; brush = o .brush }
+
+  pub play-drawn : t .columns .count * t .rows .count + 1 ≤ length j / stride - u → (s1 j1 j2 : List ℕ) → Drawn r plan s j s1 j1
       → j2 ≡ sets j1 ((u + t .columns .count * t .rows .count) * stride) (entryBytes 0xFFFFFFFF (t .columns .count * t .rows .count) (n .kind))
       → outcome 0 (t .columns .count * t .rows .count) (lent s1 j2 (u + t .columns .count * t .rows .count + 1))
-      ≡ accepted w (workOf w h (meaningIn r n) clip brush) (lent s j u)
-  play-drawn l s1 j1 j2 es ej ek =
-      drawn-is w (workOn t) s j u _ count-is l s1 j1 j2 es ej ek ∙ ap (λ (k : Work). accepted w k (lent s j u)) work-is
+      ≡ accepted w (workOf w h (meaningIn r n) o) (lent s j u)
+  play-drawn l s1 j1 j2 rows ek =
+      drawn-is w (workOn t) s j u _ count-is l s1 j1 j2 (rows .0) (rows .1) ek ∙ ap (λ (k : Work). accepted w k (lent s j u)) work-is
 
 -- ---- the whole play
 
@@ -115,12 +120,12 @@ refused-some : (k status : ℕ) (n : Record) → Refused k ≡ settled status n 
 refused-some k zero n e = absurd (true≢false (ap isRefused e))
 refused-some k (suc status) n e = let q = ap statusIn e in (sym q, λ z. omega (arith, q))
 
-module _ (w h : ℕ) (s j : List ℕ) (u : ℕ) (r : List ℕ) (clip : Rectangle) (brush : ℕ) where
+module _ (w h : ℕ) (s j : List ℕ) (u : ℕ) (r : List ℕ) (o : Terms) where
   -- the play by the statuses of the lent memory and of the record
   abbrev settledBy : (memory reading : ℕ) → Outcome
   settledBy memory reading =
-      settle (orElse memory (orElse reading (roomStatus (work w h (playWith r clip brush)) (lent s j u)))) (lent s j u)
-      (outcome 0 (counted (work w h (playWith r clip brush))) (played w (work w h (playWith r clip brush)) (lent s j u)))
+      settle (orElse memory (orElse reading (roomStatus (work w h (playWith r o)) (lent s j u)))) (lent s j u)
+      (outcome 0 (counted (work w h (playWith r o))) (played w (work w h (playWith r o)) (lent s j u)))
 
   by-memory : (k reading : ℕ) → (k ≡ 0 → ⊥) → outcome k 0 (lent s j u) ≡ settledBy k reading
   by-memory zero reading z = absurd (z refl)
@@ -130,26 +135,26 @@ module _ (w h : ℕ) (s j : List ℕ) (u : ℕ) (r : List ℕ) (clip : Rectangle
   by-reading zero z = absurd (z refl)
   by-reading (suc k) z = refl
 
-  play-is : settledBy (limits w h (length s) (length j) u) (statusOf r) ≡ play w h (playWith r clip brush) (lent s j u)
+  play-is : settledBy (limits w h (length s) (length j) u) (statusOf r) ≡ play w h (playWith r o) (lent s j u)
   unfolding play playOf
   play-is = refl
 
   module _ (b : ℕ) (eb : b ≡ limits w h (length s) (length j) u) where
-    pub play-limits : (a : Answer) → (b ≡ 0 → ⊥) → a ≡ refusal b u → left a s j ≡ play w h (playWith r clip brush) (lent s j u)
+    pub play-limits : (a : Answer) → (b ≡ 0 → ⊥) → a ≡ refusal b u → left a s j ≡ play w h (playWith r o) (lent s j u)
     play-limits a z q =
         ap (λ (a : Answer). left a s j) q ∙ by-memory b (statusOf r) z ∙ ap (λ (k : ℕ). settledBy k (statusOf r)) eb ∙ play-is
 
     module _ (z : b ≡ 0) (v : Checked) (ev : v ≡ checkOf r) where
-      pub play-refused : (k : ℕ) (a : Answer) → v ≡ Refused k → a ≡ refusal k u → left a s j ≡ play w h (playWith r clip brush) (lent s j u)
+      pub play-refused : (k : ℕ) (a : Answer) → v ≡ Refused k → a ≡ refusal k u → left a s j ≡ play w h (playWith r o) (lent s j u)
       unfolding checkOf
       play-refused k a q p =
-          let o = refused-some k (statusOf r) (recordOf r) (sym q ∙ ev) in
-          ap (λ (a : Answer). left a s j) p ∙ by-reading k (o .1) ∙ ap₂ settledBy (sym z ∙ eb) (sym (o .0)) ∙ play-is
+          let some = refused-some k (statusOf r) (recordOf r) (sym q ∙ ev) in
+          ap (λ (a : Answer). left a s j) p ∙ by-reading k (some .1) ∙ ap₂ settledBy (sym z ∙ eb) (sym (some .0)) ∙ play-is
 
-      pub play-accepted : (n : Record) (o : Outcome) → v ≡ Accepted n → o ≡ accepted w (workOf w h (meaningIn r n) clip brush) (lent s j u)
-          → o ≡ play w h (playWith r clip brush) (lent s j u)
+      pub play-accepted : (n : Record) (r′ : Outcome) → v ≡ Accepted n → r′ ≡ accepted w (workOf w h (meaningIn r n) o) (lent s j u)
+          → r′ ≡ play w h (playWith r o) (lent s j u)
       unfolding work meaningOf
-      play-accepted n o q p =
+      play-accepted n r′ q p =
           let m : n ≡ recordOf r = accepted-is r n (sym q ∙ ev) .0 in
           let x : 0 ≡ statusOf r = ap statusIn (sym q ∙ ev) ∙ check-number r in
-          p ∙ ap (λ (n : Record). accepted w (workOf w h (meaningIn r n) clip brush) (lent s j u)) m ∙ ap₂ settledBy (sym z ∙ eb) x ∙ play-is
+          p ∙ ap (λ (n : Record). accepted w (workOf w h (meaningIn r n) o) (lent s j u)) m ∙ ap₂ settledBy (sym z ∙ eb) x ∙ play-is

@@ -46,7 +46,7 @@ pub places-on : (w h : ℕ) (p : Play) → All (OnSurface w h) (work w h p .plac
 unfolding work workOf
 places-on w h p =
     let k : Meaning = meaningOf (p .bytes) in
-    target-on w h (targetIn w h k (p .clip)) (inside w h (p .clip) (k .bounds) (k .x) (k .y) (k .cx) (k .cy))
+    target-on w h (targetIn w h k (p .terms .clip)) (inside w h (p .terms .clip) (k .bounds) (k .x) (k .y) (k .cx) (k .cy))
 
 -- ---- the pixels
 
@@ -89,4 +89,4 @@ pub paints-pixels : (w h : ℕ) (p : Play) (old x y : ℕ) → old < 2 ^ 32 → 
 unfolding work workOf
 paints-pixels w h p =
     let k : Meaning = meaningOf (p .bytes) in
-    paint-word (targetIn w h k (p .clip)) k (p .brush)
+    paint-word (targetIn w h k (p .terms .clip)) k (p .terms .brush)

@@ -1,7 +1,7 @@
 -- Conditions 1 and 2: what `play` and `undo` answer and leave, for every input. Definitions only.
 use Prim.Native.Nat.{ℕ}
 use mathlib.Core.List.{List}
-use Rattle.region.specs.declared.Rectangle.{Rectangle}
+use Rattle.meaning.specs.declared.Terms.{Terms}
 use Rattle.journal.specs.Drawing.{Work}
 use Rattle.lent.specs.Lent.{Lent, Outcome, outcome, settle}
 use Rattle.lent.specs.Playing.{counted, played, roomStatus, playOf}
@@ -11,15 +11,14 @@ use Rattle.meaning.specs.Meaning.{meaningOf, workOf}
 -- "a play's record, clip and brush"
 pub record Play : Type 0 where
   pub bytes : List ℕ
-  pub clip : Rectangle
-  pub brush : ℕ
+  pub terms : Terms
 
-abbrev pub playWith : (bytes : List ℕ) (clip : Rectangle) (brush : ℕ) → Play
-playWith bytes clip brush = record { bytes = bytes; clip = clip; brush = brush }
+abbrev pub playWith : (bytes : List ℕ) → Terms → Play
+playWith bytes terms = record { bytes = bytes; terms = terms }
 
 -- what a play comes to on a surface of these sides
 unfoldable pub work : (width height : ℕ) → Play → Work
-work width height p = workOf width height (meaningOf (p .bytes)) (p .clip) (p .brush)
+work width height p = workOf width height (meaningOf (p .bytes)) (p .terms)
 
 -- the statuses of the lent memory, then those of the record, then 14; else the play drawn and journalled
 unfoldable pub play : (width height : ℕ) → Play → Lent → Outcome

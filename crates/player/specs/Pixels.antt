@@ -29,9 +29,9 @@ pub record Pixels (width height : ℕ) (p : Play) (s : List ℕ) (k : Meaning) (
   -- source pixel and mask bit of its column and row in the whole target
   pub inside : (x y : ℕ) → Covers t x y
       → pixel width (drawnBy width (work width height p) s) x y
-      ≡ paintedBy (k .rule (p .brush)) (k .source (within (t .columns) x) (within (t .rows) y)) (k .bit (within (t .columns) x) (within (t .rows) y)) (pixel width s x y)
+      ≡ paintedBy (k .rule (p .terms .brush)) (k .source (within (t .columns) x) (within (t .rows) y)) (k .bit (within (t .columns) x) (within (t .rows) y)) (pixel width s x y)
   -- which pixels those are: "every pixel of target and cut clip", where Bounds meet it
-  pub target : Bytes (p .bytes) → Words (p .clip) → Exact width height (p .clip) (k .bounds) (k .x) (k .y) (k .cx) (k .cy) t
+  pub target : Bytes (p .bytes) → Words (p .terms .clip) → Exact width height (p .terms .clip) (k .bounds) (k .x) (k .y) (k .cx) (k .cy) t
   -- "changes no other"
   pub outside : (x y : ℕ) → x < width → (Covers t x y → ⊥) → pixel width (drawnBy width (work width height p) s) x y ≡ pixel width s x y
   -- each journal record holds the pixel of the surface before the play
@@ -43,4 +43,4 @@ pub record Pixels (width height : ℕ) (p : Play) (s : List ℕ) (k : Meaning) (
 abbrev pub PixelByPixel : Type 0
 PixelByPixel =
     (width height : ℕ) (p : Play) (s : List ℕ) → length s ≡ width * height
-    → Pixels width height p s (meaningOf (p .bytes)) (targetIn width height (meaningOf (p .bytes)) (p .clip))
+    → Pixels width height p s (meaningOf (p .bytes)) (targetIn width height (meaningOf (p .bytes)) (p .terms .clip))

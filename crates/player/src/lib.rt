@@ -7,9 +7,10 @@ ghost use Rattle.lent.specs.Undoing.{undoOf};
 ghost use Rattle.meaning.specs.Meaning.{meaningIn, workOf};
 ghost use Rattle.player.specs.Calls.{playWith, play as playing, accepted as acceptedOf};
 ghost use Rattle.player.specs.Left.{left, refusal};
+use draw::Plan;
 use judge::Checked;
 use judge::Record;
-use region::Rectangle;
+use meaning::Terms;
 
 // A call's answer: its status, its number of pixels, and the journal's records in use from now on.
 pub struct Answer {
@@ -38,13 +39,13 @@ fn accepted(
     used: u64,
     s: &[u8],
     rec: Record,
-    clip: Rectangle,
-    brush: u32,
+    terms: Terms,
 ) -> Answer
     requires { ⌜ (limits width height (length (now surface)) (length (now journal)) used ≡ 0) × Good (length (now s)) rec ⌝ }
-    ensures { λ r. ⌜ left r (now (surface .exit)) (now (journal .exit)) ≡ acceptedOf width (workOf width height (meaningIn (now (s .entry)) rec) clip brush) (lent (now (surface .entry)) (now (journal .entry)) used) ⌝ }
+    ensures { λ r. ⌜ left r (now (surface .exit)) (now (journal .exit)) ≡ acceptedOf width (workOf width height (meaningIn (now (s .entry)) rec) terms) (lent (now (surface .entry)) (now (journal .entry)) used) ⌝ }
 {
     let bounds = rec.bounds;
+    let clip = terms.clip;
     let t = region::clipped_target(width, height, clip, bounds, rec.x, rec.y, rec.cx, rec.cy);
     let pixels = t.columns.count * t.rows.count;
     let records = journal.len() / journal::STRIDE;
@@ -52,18 +53,14 @@ fn accepted(
     if free < pixels + 1 {
         return refused(14, used);
     }
-    draw::clipped(
-        surface,
+    let plan = Plan {
         width,
-        height,
-        journal,
-        used as usize,
-        s,
-        rec,
-        clip,
-        t,
-        brush,
-    );
+        at: used as usize,
+        record: rec,
+        target: t,
+        brush: terms.brush,
+    };
+    draw::clipped(surface, journal, s, plan);
     let closing = (used + pixels) as usize;
     journal::put(journal, closing, journal::MARK, pixels as u32, rec.kind);
     Answer {
@@ -73,7 +70,7 @@ fn accepted(
     }
 }
 
-// Plays record s, cut to the clip, with the brush's low 24 bits. A refused play changes nothing.
+// Plays record s. A refused play changes nothing.
 pub fn play(
     surface: &mut [u32],
     width: u32,
@@ -81,10 +78,9 @@ pub fn play(
     journal: &mut [u8],
     used: u64,
     s: &[u8],
-    clip: Rectangle,
-    brush: u32,
+    terms: Terms,
 ) -> Answer
-    ensures { λ r. ⌜ left r (now (surface .exit)) (now (journal .exit)) ≡ playing width height (playWith (now (s .entry)) clip brush) (lent (now (surface .entry)) (now (journal .entry)) used) ⌝ }
+    ensures { λ r. ⌜ left r (now (surface .exit)) (now (journal .exit)) ≡ playing width height (playWith (now (s .entry)) terms) (lent (now (surface .entry)) (now (journal .entry)) used) ⌝ }
 {
     let status = lent::status(width, height, surface.len(), journal.len(), used);
     if status != 0 {
@@ -94,7 +90,7 @@ pub fn play(
         Checked::Accepted(rec) => rec,
         Checked::Refused(k) => return refused(k, used),
     };
-    accepted(surface, width, height, journal, used, s, rec, clip, brush)
+    accepted(surface, width, height, journal, used, s, rec, terms)
 }
 
 // Undoes the last play. All its records are tested before one pixel is restored: a refused undo changes nothing.

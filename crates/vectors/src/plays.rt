@@ -2,14 +2,20 @@
 ghost use Prim.Native.Nat.{_+_, _≤_, _<_};
 ghost use lib.ListN.{length};
 use crate::line;
+use meaning::Terms;
 use region::Rectangle;
 
-fn everywhere() -> Rectangle {
-    Rectangle {
+// A clip that cuts nothing, and document 01's brush.
+fn everywhere() -> Terms {
+    let clip = Rectangle {
         left: 0,
         top: 0,
         right: 100,
         bottom: 100,
+    };
+    Terms {
+        clip: clip,
+        brush: 0x112233,
     }
 }
 
@@ -70,7 +76,7 @@ pub fn whole() {
 }
 
 fn taken(r: &[u8], surface: &mut [u32], journal: &mut [u8]) {
-    let a = player::play(surface, 2, 1, journal, 0, r, everywhere(), 0x112233);
+    let a = player::play(surface, 2, 1, journal, 0, r, everywhere());
     line::number(b"whole play, 36 bytes: status", a.status as u64, 0);
     line::number(b"whole play: pixels", a.pixels as u64, 2);
     line::number(b"whole play: count in use", a.used, 3);
@@ -121,7 +127,7 @@ pub fn refused() {
 
 fn not_taken(label: &[u8], r: &[u8], journal: &mut [u8], status: u32) {
     let mut surface = [0xFF000000u32, 0xFF0000FFu32];
-    let a = player::play(&mut surface, 2, 1, journal, 0, r, everywhere(), 0x112233);
+    let a = player::play(&mut surface, 2, 1, journal, 0, r, everywhere());
     line::number(label, a.status as u64, status as u64);
     line::number(b"refused: pixels", a.pixels as u64, 0);
     line::pixel(b"refused: pixel 0", surface[0], 0xFF000000);
@@ -131,7 +137,7 @@ fn not_taken(label: &[u8], r: &[u8], journal: &mut [u8], status: u32) {
 // Plays on a surface of one row and shows its pixels.
 fn shown(label: &[u8], r: &[u8], surface: &mut [u32; 3], first: u32, second: u32, third: u32) {
     let mut journal = [0u8; 48];
-    let a = player::play(surface, 3, 1, &mut journal, 0, r, everywhere(), 0x112233);
+    let a = player::play(surface, 3, 1, &mut journal, 0, r, everywhere());
     line::number(label, a.status as u64, 0);
     line::pixel(label, surface[0], first);
     line::pixel(label, surface[1], second);

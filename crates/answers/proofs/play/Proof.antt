@@ -1,4 +1,4 @@
--- The call leaves what it was lent as `player::play` says, its clip and brush are those that stand in the front, and what was not lent is as it was.
+-- The call leaves what it was lent as `player::play` says, its terms are those that stand in the front, and what was not lent is as it was.
 use mathlib.Core.Path.{sym, ap, _∙_}
 use mathlib.Core.List.{List, _++_}
 use Prim.Native.Nat.{ℕ}
@@ -10,36 +10,15 @@ use borrow.Author.Needs.{needs}
 use Rattle.answers.proofs.play.Statement.{statement}
 use Rattle.answers.proofs.play.Tie as tie
 
-read-requires : tie.Need-read-requires
-read-requires c κs = search needs
+surface-taken : tie.Need-slice-aggregate-play
+surface-taken c = sym (length-take-le _ _ (c .before .before .before .before .before .before .pre .0))
 
-read-u32-requires : tie.Need-read-u32-requires
-read-u32-requires c κs = search needs
-
-slice-relend-prefix-play : tie.Need-slice-relend-prefix-play
-slice-relend-prefix-play c = search needs
-
-slice-aggregate-play : tie.Need-slice-aggregate-play
-slice-aggregate-play c = sym (length-take-le _ _ (c .before .before .before .before .before .before .before .pre .0))
-
-slice-relend-prefix-play-2 : tie.Need-slice-relend-prefix-play-2
-slice-relend-prefix-play-2 c = search needs
-
-slice-aggregate-play-2 : tie.Need-slice-aggregate-play-2
-slice-aggregate-play-2 c = sym (length-take-le _ _ (c .before .before .before .before .before .before .before .before .pre .1))
-
-play-requires : tie.Need-play-requires
-play-requires c κs = search needs
-
-same-length : tie.Need-same-length
-same-length c = search needs
-
-same-length-2 : tie.Need-same-length-2
-same-length-2 c = search needs
+journal-taken : tie.Need-slice-aggregate-play-2
+journal-taken c = sym (length-take-le _ _ (c .before .before .before .before .before .before .before .pre .1))
 
 returns : tie.Need-returns
 returns c =
-    let start = c .before .before .before .before .before .before .before .before .before .before .before .before .before in
+    let start = c .before .before .before .before .before .before .before .before .before .before .before .before in
     let played = c .before .before .before .before .play in
     let n : ℕ = start .args .m .pixels in
     let l : List ℕ = start .args .surface .now in
@@ -49,22 +28,12 @@ returns c =
     let f : List ℕ = played .last .1 .1 .1 .0 in (
       ap (λ (x : List ℕ). left (played .result) x (take m (f ++ drop m j))) (front n l e (start .pre .0) (played .kept .0))
           ∙ ap (left (played .result) e) (front m j f (start .pre .1) (played .kept .1 .1 .1 .0)) ∙ played .ensures
-          ∙ asked _ _ _ (start .args .front .now) _ _ _ (c .before .before .before .before .before .before .before .before .read .ensures)
-          (c .before .before .before .before .before .before .before .read-u32 .ensures),
+          ∙ asked _ _ _ (start .args .front .now) _ _ (c .before .before .before .before .before .before .before .read-terms .ensures),
       (rest n l e (start .pre .0) (played .kept .0), rest m j f (start .pre .1) (played .kept .1 .1 .1 .0)),
     )
 
 pub play-spec : {M : Type 1} → statement M
 play-spec =
-    tie.close
-    (tie.spec
-    read-requires
-    read-u32-requires
-    slice-relend-prefix-play
-    slice-aggregate-play
-    slice-relend-prefix-play-2
-    slice-aggregate-play-2
-    play-requires
-    same-length
-    same-length-2
-    returns)
+    tie.close (tie.spec
+    (λ c κs. search needs) (λ c. search needs) surface-taken (λ c. search needs) journal-taken (λ c κs. search needs) (λ c. search needs)
+    (λ c. search needs) returns)

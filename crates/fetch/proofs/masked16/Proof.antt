@@ -9,10 +9,10 @@ use Rattle.fetch.proofs.masked16.Statement.{statement}
 use Rattle.fetch.proofs.masked16.Tie as tie
 
 abbrev Inv-loop : tie.InvT-loop
-Inv-loop t m line columns out₀ i₀ out i = Fetching 16 [] m line columns out₀ i out
+Inv-loop m line columns out₀ table i₀ out i = Fetching 16 [] m line columns out₀ i out
 
 abbrev μ-loop : tie.MeasureT-loop
-μ-loop t m line columns out₀ i₀ out i = length columns - i
+μ-loop m line columns out₀ table i₀ out i = length columns - i
 
 loop-again : tie.Need-loop-again Inv-loop μ-loop
 unfolding shown stored
@@ -21,6 +21,6 @@ loop-again c = search fetch-turns
 pub masked16-spec : {M : Type 1} → statement M
 masked16-spec =
     tie.close (tie.spec
-    Inv-loop μ-loop (λ c. search fetching) (λ c κs. search fetching) (λ c. search fetching) (λ c κs. search fetching)
+    Inv-loop μ-loop (λ c κs. tt) (λ c. search fetching) (λ c κs. search fetching) (λ c. search fetching) (λ c κs. search fetching)
     (λ c κs. search fetching) (λ c. search fetching) (λ c. search fetching) (λ c. search fetching) (λ c. search fetching)
     loop-again (λ c. search fetching) (λ c. search fetching))

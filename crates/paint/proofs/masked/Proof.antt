@@ -1,36 +1,31 @@
 -- Each turn saves the old pixel and writes the new one, by the mask's bit.
-use mathlib.Core.Bool.{cond}
 use Prim.Native.Nat.{ℕ, _-_}
 use native.Mathlib.Omega.{arith}
 use lib.ListN.{length, getD}
-use lib.Dec.{eqb}
 use Rattle.paint.specs.declared.Rule.the-variants.{Masked}
-use Rattle.paint.specs.Paints.{rowPaint}
-use Rattle.pixel.specs.Raster.{rasterPixel}
+use Rattle.paint.specs.Paints.{paintedBy, rowPaint}
 use Rattle.journal.proofs.RowLaws.{Row, row-begins, row-ends}
 use Rattle.paint.proofs.TurnLaws.{turns}
 use Rattle.paint.proofs.masked.Statement.{statement}
 use Rattle.paint.proofs.masked.Tie as tie
 
 abbrev Inv-loop : tie.InvT-loop
-Inv-loop surface₀ width journal₀ at x y colours bits foreground background brush start i₀ surface journal i =
+Inv-loop surface₀ width journal₀ colours bits foreground background brush at x y start i₀ surface journal i =
     Row width (rowPaint (Masked foreground background brush) colours bits x) at x (length colours) y surface₀ journal₀ surface journal i
 
 abbrev μ-loop : tie.MeasureT-loop
-μ-loop surface₀ width journal₀ at x y colours bits foreground background brush start i₀ surface journal i =
-    length colours - i
+μ-loop surface₀ width journal₀ colours bits foreground background brush at x y start i₀ surface journal i = length colours - i
 
 loop-holds : tie.Need-loop-holds Inv-loop μ-loop
 loop-holds c = search row-begins
 
 loop-again : tie.Need-loop-again Inv-loop μ-loop
 loop-again c =
-    let a = c .before .before .before .before .before .before .before .before .before .before .before .before .before .before .args in
-    let l = c .before .before .before .before .before .before .before .before .before .loop in
-    turns
-    (λ (i d : ℕ). cond (eqb (getD (a .bits .now) i 0) 1) (rasterPixel (a .foreground) (a .brush) (getD (a .colours .now) i 0) d) (rasterPixel (a .background) (a .brush) (getD (a .colours .now) i 0) d))
-    (a .width) (a .at) (a .x) (length (a .colours .now)) (a .y) (a .surface .now) (a .journal .now) (l .surface) (l .journal) _ (l .i) _ (l .inv)
-    (omega arith) (c .one-of .ensures) (c .before .before .before .before .before .put .ensures)
+    let at-loop = c .before .before .before .before .before .before .before .before .before in
+    let a = at-loop .before .before .before .before .before .args in
+    let rule = Masked (a .foreground) (a .background) (a .brush) in
+    turns (λ (i old : ℕ). paintedBy rule (getD (a .colours .now) i 0) (getD (a .bits .now) i 0) old) _ _ _ _ _ _ _ _ _ _ _ _
+    (at-loop .loop .inv) (omega arith) (c .one-of .ensures) (c .before .before .before .before .before .put .ensures)
 
 returns : tie.Need-returns Inv-loop μ-loop
 returns c = row-ends _ _ _ _ _ _ _ _ _ _ _ (c .before .loop .inv) (c .loop-test .left)
@@ -38,7 +33,7 @@ returns c = row-ends _ _ _ _ _ _ _ _ _ _ _ (c .before .loop .inv) (c .loop-test 
 pub masked-spec : {M : Type 1} → statement M
 masked-spec =
     tie.close (tie.spec
-    Inv-loop μ-loop (λ c. omega arith) (λ c. omega arith) loop-holds (λ c. omega arith) (λ c. omega arith) (λ c. omega arith)
+    Inv-loop μ-loop (λ c. omega arith) (λ c. omega arith) (λ c. omega arith) (λ c. omega arith) loop-holds (λ c. omega arith)
+    (λ c. omega arith) (λ c. omega arith) (λ c. omega arith) (λ c. omega arith) (λ c. omega arith) (λ c κs. omega arith)
     (λ c. omega arith) (λ c. omega arith) (λ c. omega arith) (λ c κs. omega arith) (λ c. omega arith) (λ c. omega arith)
-    (λ c. omega arith) (λ c κs. omega arith) (λ c. omega arith) (λ c. omega arith) (λ c. omega arith) (λ c. omega arith)
-    loop-again (λ c. omega arith) (λ c. omega arith) returns)
+    (λ c. omega arith) (λ c. omega arith) loop-again (λ c. omega arith) (λ c. omega arith) returns)

@@ -1,5 +1,5 @@
 -- Each rule has its own loop, and each loop paints by its rule.
-use Rattle.paint.proofs.TurnLaws.{drawn-by, saved-by}
+use Rattle.paint.proofs.TurnLaws.{painted-by}
 use borrow.Author.Needs.{needs}
 use Rattle.paint.proofs.row.Statement.{statement}
 use Rattle.paint.proofs.row.Tie as tie
@@ -8,37 +8,29 @@ returns : tie.Need-returns
 returns c =
     let a = c .before .before .before .before .before .before .before .before .before .before .before .before .before .before .args in
     let known = c .before .before .before .before .before .before .before .before .rule .given in
-    let done = c .before .before .before .before .over0 .ensures in (
-      drawn-by _ (a .rule) (a .width) (a .colours .now) (a .bits .now) (a .x) _ (a .surface .now) _ (known .1) (done .0),
-      saved-by _ (a .rule) (a .width) (a .colours .now) (a .bits .now) (a .x) (a .at) _ (a .surface .now) (a .journal .now) _ (known .1) (done .1),
-    )
+    painted-by _ (a .rule) (a .width) (a .p) (a .colours .now) (a .bits .now) (a .surface .now) (a .journal .now) _ _ (known .1)
+    (c .before .before .before .before .over0 .ensures)
 
 returns-2 : tie.Need-returns-2
 returns-2 c =
     let a = c .before .before .before .before .before .before .before .before .before .before .before .before .before .before .args in
     let known = c .before .before .before .before .before .before .before .before .rule2 .given in
-    let done = c .before .before .before .before .over1 .ensures in (
-      drawn-by _ (a .rule) (a .width) (a .colours .now) (a .bits .now) (a .x) _ (a .surface .now) _ (known .1) (done .0),
-      saved-by _ (a .rule) (a .width) (a .colours .now) (a .bits .now) (a .x) (a .at) _ (a .surface .now) (a .journal .now) _ (known .1) (done .1),
-    )
+    painted-by _ (a .rule) (a .width) (a .p) (a .colours .now) (a .bits .now) (a .surface .now) (a .journal .now) _ _ (known .1)
+    (c .before .before .before .before .over1 .ensures)
 
 returns-3 : tie.Need-returns-3
 returns-3 c =
     let a = c .before .before .before .before .before .before .before .before .before .before .before .before .before .before .args in
     let known = c .before .before .before .before .before .before .before .before .rule3 .given in
-    let done = c .before .before .before .before .raster .ensures in (
-      drawn-by _ (a .rule) (a .width) (a .colours .now) (a .bits .now) (a .x) _ (a .surface .now) _ (known .1) (done .0),
-      saved-by _ (a .rule) (a .width) (a .colours .now) (a .bits .now) (a .x) (a .at) _ (a .surface .now) (a .journal .now) _ (known .1) (done .1),
-    )
+    painted-by _ (a .rule) (a .width) (a .p) (a .colours .now) (a .bits .now) (a .surface .now) (a .journal .now) _ _ (known .1)
+    (c .before .before .before .before .raster .ensures)
 
 returns-4 : tie.Need-returns-4
 returns-4 c =
     let a = c .before .before .before .before .before .before .before .before .before .before .before .before .before .before .args in
     let known = c .before .before .before .before .before .before .before .before .rule4 .given in
-    let done = c .before .before .before .before .masked .ensures in (
-      drawn-by _ (a .rule) (a .width) (a .colours .now) (a .bits .now) (a .x) _ (a .surface .now) _ (known .1) (done .0),
-      saved-by _ (a .rule) (a .width) (a .colours .now) (a .bits .now) (a .x) (a .at) _ (a .surface .now) (a .journal .now) _ (known .1) (done .1),
-    )
+    painted-by _ (a .rule) (a .width) (a .p) (a .colours .now) (a .bits .now) (a .surface .now) (a .journal .now) _ _ (known .1)
+    (c .before .before .before .before .masked .ensures)
 
 pub row-spec : {M : Type 1} → statement M
 row-spec =

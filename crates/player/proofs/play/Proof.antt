@@ -14,12 +14,21 @@ returns-2 : tie.Need-returns-2
 returns-2 c = search play-refused
 
 accepted-requires : tie.Need-accepted-requires
-accepted-requires c κs = (sym (c .before .before .before .before .before .before .before .status .ensures) ∙ c .before .before .before .before .before .before .if1 .left, accepted _ _ (sym (c .before .before .before .rec .given .1) ∙ c .before .before .before .before .before .check .ensures) .1)
+accepted-requires c κs =
+    let at-rec = c .before .before .before in
+    let at-check = at-rec .before .before in
+    let passes = sym (at-check .before .before .status .ensures) ∙ at-check .before .if1 .left in
+    (passes, accepted _ _ (sym (at-rec .rec .given .1) ∙ at-check .check .ensures) .1)
 
 returns-3 : tie.Need-returns-3
 returns-3 c =
-    let a = c .before .before .before .before .before .before .before .before .before .before .before .before .before .before .before .before in
-    play-accepted (a .args .width) (a .args .height) (now (a .args .surface)) (now (a .args .journal)) (a .args .used) (now (a .args .s)) (a .args .clip) (a .args .brush) _ (c .before .before .before .before .before .before .before .before .before .before .before .before .status .ensures) (c .before .before .before .before .before .before .before .before .before .before .before .if1 .left) _ (c .before .before .before .before .before .before .before .before .before .before .check .ensures) (c .before .before .before .before .before .before .before .before .rec .given .0 .0) _ (c .before .before .before .before .before .before .before .before .rec .given .1) (c .before .before .before .before .accepted .ensures)
+    let at-rec = c .before .before .before .before .before .before .before .before in
+    let at-check = at-rec .before .before in
+    let start = at-check .before .before .before .before .before .before in
+    let a = start .args in
+    play-accepted (a .width) (a .height) (now (a .surface)) (now (a .journal)) (a .used) (now (a .s)) (a .terms) _
+    (at-check .before .before .status .ensures) (at-check .before .if1 .left) _ (at-check .check .ensures) (at-rec .rec .given .0 .0) _
+    (at-rec .rec .given .1) (c .before .before .before .before .accepted .ensures)
 
 pub play-spec : {M : Type 1} → statement M
 play-spec =

@@ -30,7 +30,7 @@ row-requires-2 c κs =
     let fit = start .pre .0 .good .source in
     let reach = line-reaches (now (start .args .s)) (r .source) _ _ columns fit there row (c .before .row .ensures) (start .pre .0 .inside there) in
     let sound = as-readable r (start .args .m) (start .pre .0 .good) there (start .pre .0 .masks) in
-    (sound, (record { long = start .pre .1 .1; reach = reach }, start .pre .0 .tables))
+    (sound, (record { long = start .pre .1 .1; reach = reach }, start .pre .0 .colours))
 
 returns : tie.Need-returns
 returns c =
