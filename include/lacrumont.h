@@ -10,7 +10,7 @@
  *   - nobody else writes the lent memory during the call, nor reads what the call writes.
  * Calls on memory of their own may run at the same time. A call keeps no pointer.
  *
- * Stack: a play uses about 60 KiB (buffers for one row of 4,096 pixels, a palette and a table), whatever the input; the other
+ * Stack: a play uses about 60 KiB (buffers for one row of 4,096 pixels, and a palette), whatever the input; the other
  * calls use less than 8 KiB. There is no recursion.
  *
  * A surface is width by height 32-bit pixels, row by row from the top: alpha << 24 | red << 16 | green << 8 | blue.
