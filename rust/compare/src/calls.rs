@@ -147,7 +147,7 @@ fn play(r: &mut Random, width: u32, height: u32, sound_percent: u64) -> Play {
 /// The records that a play would take on this surface, if the second player accepts it.
 fn needed(play: &Play, width: u32, height: u32) -> Option<u64> {
     let lawful = (1..=4_096).contains(&width) && (1..=4_096).contains(&height);
-    match second::record::check(&play.record) {
+    match second::check(&play.record) {
         Ok(sound) if lawful => Some(second::play::places(&sound, width, height, &play.clip).len() as u64 + 1),
         _ => None,
     }

@@ -245,7 +245,7 @@ impl Judge {
             Step::Play(play) => {
                 self.tally.count(Call::Play, got.status);
                 if got.status == 0 {
-                    let sound = second::record::check(&play.record).expect("just accepted");
+                    let sound = second::check(&play.record).expect("just accepted");
                     self.tally.drawn(&play.record, &sound, got.pixels);
                 }
             }
