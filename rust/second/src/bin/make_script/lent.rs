@@ -113,7 +113,8 @@ pub fn foreign_journals(s: &mut Script) {
     s.poke(k + 1, 0, 4); // and that is another pixel now
     s.undo(); // 1 restored
     s.undo(); // not a closing record: 16
-              // A journal from its beginning.
+
+    // A journal from its beginning.
     s.poke_record(0, [5, 5, 0x4444_4444]); // a pixel
     s.poke_record(1, [mark, 2, 0x51]); // names two, one stands before it
     s.count(2); // in use

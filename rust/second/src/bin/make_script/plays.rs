@@ -268,7 +268,8 @@ pub fn readings(s: &mut Script, r: &mut Random) {
     s.read_mask(&rec.bytes()); // 0x72 has no mask: 0 and empty
     s.read_mask(&brushed([0, 0, 1, 1], 0xF0).bytes()); // nor has 0x51
     s.read_source(&brushed([0, 0, 1, 1], 0xF0).bytes()); // source absent: 0 and empty
-                                                         // MASKBLT: the mask's own reading, with its palette, and the source's.
+
+    // MASKBLT: the mask's own reading, with its palette, and the source's.
     let rec = record(MASKBLT, [0, 0, 4, 4], rop4(0xAA, 0xCC));
     let rec = rec.from([0, 0, 0, 0], picture(r, 108, 4, 4, 32, 2)).masked([0, 0], mask_picture(r, 3));
     s.read_mask(&rec.bytes());
@@ -281,7 +282,8 @@ pub fn readings(s: &mut Script, r: &mut Random) {
     let rec = record(STRETCHDIBITS, [1, 1, 3, 3], COPY).from([0, 0, 3, 3], p);
     s.read_source(&rec.bytes()); // read
     s.play(WHOLE, 0, &rec.bytes()); // entries past the two show black
-                                    // A 16-bit V4 picture with all alpha bits, 0x51 ignores alpha.
+
+    // A 16-bit V4 picture with all alpha bits, 0x51 ignores alpha.
     let p = picture(r, 108, 4, -4, 16, 256).bitfields([0xF, 0xF0, 0xF00, 0xF000]);
     let p = Picture { table: vec![0x7777_7777; 256], ..p };
     let rec = record(STRETCHDIBITS, [12, 12, 8, 8], rop(0xCC)).from([0, 0, 4, 4], p);
