@@ -9,7 +9,7 @@
 #include <time.h>
 
 enum { SIDE = 4096, ROUNDS = 11 };
-static const size_t PIXELS = (size_t)SIDE * SIDE, JOURNAL = ((size_t)SIDE * SIDE + 1) * 12;
+static const size_t PIXELS = (size_t)SIDE * SIDE, JOURNAL = ((size_t)SIDE * SIDE + 1) * LACRUMONT_JOURNAL_RECORD;
 
 static double now(void) {
     struct timespec t;
@@ -105,7 +105,7 @@ static void run(const char *name, size_t len) {
         t = now() - t;
         if (t < best_b) best_b = t;
         check(name, status == 0 && n == pixels && used_a == used_b);
-        if (round == 0) check(name, !memcmp(ours, theirs, PIXELS * 4) && !memcmp(our_journal, their_journal, used_a * 12));
+        if (round == 0) check(name, !memcmp(ours, theirs, PIXELS * 4) && !memcmp(our_journal, their_journal, used_a * LACRUMONT_JOURNAL_RECORD));
         t = now();
         status = lacrumont_undo(ours, PIXELS, SIDE, SIDE, our_journal, JOURNAL, &used_a, &n);
         t = now() - t;

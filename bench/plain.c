@@ -1,9 +1,12 @@
 /* A plain C player, for the benchmark only: it draws what the library draws and journals every old pixel, but trusts its record
    (a 40-byte header, everything in place, no mask but a 1-bit one). What the record decides is decided once a play or once a row. */
+#include "../include/lacrumont.h" /* for the length of a journal record alone */
 #include "plain.h"
 
 #include <stdlib.h>
 #include <string.h>
+
+static const size_t RECORD = LACRUMONT_JOURNAL_RECORD;
 
 static uint32_t le16(const uint8_t *p) { return p[0] | (uint32_t)p[1] << 8; }
 static uint32_t le32(const uint8_t *p) { return le16(p) | le16(p + 2) << 16; }
@@ -99,7 +102,7 @@ static uint32_t blend1(uint32_t s, uint32_t a, uint32_t d, uint32_t c) {
 static void row_blend0(uint32_t *restrict d, uint8_t *restrict j, const uint32_t *restrict s, uint32_t n, uint32_t x, uint32_t y, uint32_t c) {
     for (uint32_t i = 0; i < n; i++) {
         uint32_t o = d[i], v = s[i];
-        put(j + 12 * (size_t)i, x + i, y, o);
+        put(j + RECORD * i, x + i, y, o);
         d[i] = blend0(v >> 24, o >> 24, c) << 24 | blend0(v >> 16 & 255, o >> 16 & 255, c) << 16 | blend0(v >> 8 & 255, o >> 8 & 255, c) << 8
              | blend0(v & 255, o & 255, c);
     }
@@ -108,7 +111,7 @@ static void row_blend0(uint32_t *restrict d, uint8_t *restrict j, const uint32_t
 static void row_blend1(uint32_t *restrict d, uint8_t *restrict j, const uint32_t *restrict s, uint32_t n, uint32_t x, uint32_t y, uint32_t c) {
     for (uint32_t i = 0; i < n; i++) {
         uint32_t o = d[i], v = s[i], a = v >> 24;
-        put(j + 12 * (size_t)i, x + i, y, o);
+        put(j + RECORD * i, x + i, y, o);
         d[i] = blend1(a, a, o >> 24, c) << 24 | blend1(v >> 16 & 255, a, o >> 16 & 255, c) << 16 | blend1(v >> 8 & 255, a, o >> 8 & 255, c) << 8
              | blend1(v & 255, a, o & 255, c);
     }
@@ -131,7 +134,7 @@ static void row_raster(uint32_t *restrict d, uint8_t *restrict j, const uint32_t
     uint32_t k[4] = {m[0], m[1], m[2], m[3]};
     for (uint32_t i = 0; i < n; i++) {
         uint32_t o = d[i];
-        put(j + 12 * (size_t)i, x + i, y, o);
+        put(j + RECORD * i, x + i, y, o);
         d[i] = (o & 0xFF000000u) | combine(k, s[i], o);
     }
 }
@@ -141,7 +144,7 @@ static void row_masked(uint32_t *restrict d, uint8_t *restrict j, const uint32_t
     uint32_t k[4] = {f[0], f[1], f[2], f[3]}, l[4] = {b[0], b[1], b[2], b[3]};
     for (uint32_t i = 0; i < n; i++) {
         uint32_t o = d[i];
-        put(j + 12 * (size_t)i, x + i, y, o);
+        put(j + RECORD * i, x + i, y, o);
         uint32_t q = 0u - bits[i];
         d[i] = (o & 0xFF000000u) | (combine(k, s[i], o) & q) | (combine(l, s[i], o) & ~q);
     }
@@ -178,7 +181,7 @@ uint32_t plain_play(uint32_t *surface, uint32_t width, uint8_t *journal, uint64_
         read_picture(&mask, r, le32(r + 112), le32(r + 120));
         for (uint32_t i = 0; i < m; i++) spots[i] = (uint32_t)((((int64_t)(int32_t)le32(r + 100) + i) % mask.width + mask.width) % mask.width);
     }
-    uint8_t *j = journal + *used * 12;
+    uint8_t *j = journal + *used * RECORD;
     for (uint32_t q = 0; q < l; q++) {
         uint32_t *d = surface + (size_t)(top + q) * width + left;
         if (present) {
@@ -194,7 +197,7 @@ uint32_t plain_play(uint32_t *surface, uint32_t width, uint8_t *journal, uint64_
         else if (type == 0x72) row_blend1(d, j, colours, m, left, top + q, op >> 16 & 255);
         else if (type == 0x51) row_raster(d, j, colours, m, left, top + q, f);
         else row_masked(d, j, colours, bits, m, left, top + q, f, b);
-        j += 12 * (size_t)m;
+        j += RECORD * m;
     }
     put(j, 0xFFFFFFFFu, m * l, type);
     *used += (uint64_t)m * l + 1;
@@ -202,13 +205,13 @@ uint32_t plain_play(uint32_t *surface, uint32_t width, uint8_t *journal, uint64_
 }
 
 uint32_t plain_undo(uint32_t *surface, uint32_t width, uint32_t height, const uint8_t *journal, uint64_t *used) {
-    const uint8_t *last = journal + (*used - 1) * 12;
+    const uint8_t *last = journal + (*used - 1) * RECORD;
     uint32_t n = le32(last + 4);
-    const uint8_t *from = last - (size_t)n * 12;
+    const uint8_t *from = last - n * RECORD;
     if (le32(last) != 0xFFFFFFFFu) return 0;
-    for (const uint8_t *p = from; p < last; p += 12)
+    for (const uint8_t *p = from; p < last; p += RECORD)
         if (le32(p) >= width || le32(p + 4) >= height) return 0;
-    for (const uint8_t *p = last - 12; p + 12 > from; p -= 12) surface[(size_t)le32(p + 4) * width + le32(p)] = le32(p + 8);
+    for (const uint8_t *p = last - RECORD; p + RECORD > from; p -= RECORD) surface[(size_t)le32(p + 4) * width + le32(p)] = le32(p + 8);
     *used -= (uint64_t)n + 1;
     return n;
 }

@@ -24,7 +24,7 @@ int main(void) {
 
     const uint32_t start[2] = {0xFF000000, 0xFF0000FF};
     uint32_t surface[2];
-    uint8_t journal[36];
+    uint8_t journal[3 * LACRUMONT_JOURNAL_RECORD]; /* one for each pixel, and the closing one */
     uint64_t used = 0;
     uint32_t pixels;
     memcpy(surface, start, sizeof surface);
@@ -33,8 +33,10 @@ int main(void) {
     uint32_t status = lacrumont_play(surface, 2, 2, 1, journal, sizeof journal, &used, record, sizeof record, 0, 0, 2, 1, 0x112233, &pixels);
     printf("play: status %u, %u pixels, %llu records in use\n", status, pixels, (unsigned long long)used);
     printf("surface: %08X %08X\n", surface[0], surface[1]);
-    for (uint64_t k = 0; k < used; k++)
-        printf("record %llu: %08X %08X %08X\n", (unsigned long long)k, get32(journal + 12 * k), get32(journal + 12 * k + 4), get32(journal + 12 * k + 8));
+    for (uint64_t k = 0; k < used; k++) {
+        const uint8_t *at = journal + LACRUMONT_JOURNAL_RECORD * k;
+        printf("record %llu: %08X %08X %08X\n", (unsigned long long)k, get32(at), get32(at + 4), get32(at + 8));
+    }
 
     status = lacrumont_undo(surface, 2, 2, 1, journal, sizeof journal, &used, &pixels);
     printf("undo: status %u, %u pixels, %llu records in use\n", status, pixels, (unsigned long long)used);

@@ -498,6 +498,8 @@ add(0,
 
 # ---- the numbers that the program prints before the records: what is asked, what should come
 
+JOURNAL_RECORD = 12  # bytes
+
 NUMBERS = [
     ("format 0: s 200, d 100, c 128", "150"),
     ("format 1: s 100, a 128, c 255, d 200", "200"),
@@ -532,7 +534,7 @@ NUMBERS = [
     ("4-bit byte 0x1F, column 0: index", "1"),
     ("4-bit byte 0x1F, column 1: index", "15"),
     # document 01's whole play, and its undo
-    ("whole play, 36 bytes: status", "0"),
+    (f"whole play, {3 * JOURNAL_RECORD} bytes: status", "0"),
     ("whole play: pixels", "2"),
     ("whole play: count in use", "3"),
     ("whole play: pixel 0", "0xff112233"),
@@ -551,11 +553,11 @@ NUMBERS = [
     ("undone: count in use", "0"),
     ("undone: pixel 0", "0xff000000"),
     ("undone: pixel 1", "0xff0000ff"),
-    ("whole play, 24 bytes: status", "14"),
+    (f"whole play, {2 * JOURNAL_RECORD} bytes: status", "14"),
     ("refused: pixels", "0"),
     ("refused: pixel 0", "0xff000000"),
     ("refused: pixel 1", "0xff0000ff"),
-    ("whole play, 35 bytes: status", "2"),
+    (f"whole play, {3 * JOURNAL_RECORD - 1} bytes: status", "2"),
     ("refused: pixels", "0"),
     ("refused: pixel 0", "0xff000000"),
     ("refused: pixel 1", "0xff0000ff"),

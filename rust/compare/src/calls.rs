@@ -1,17 +1,20 @@
 //! Cases: surfaces, journals, counts in use, clips, and the calls made with them.
 
+use crate::makers::{self, Aim};
 use crate::random::Random;
-use crate::records::{self, Aim, LONGEST};
+use face::constants::{JOURNAL_RECORD, MOST_JOURNAL, MOST_RECORD, MOST_SIDE};
+use records::places::SIZE;
+use records::{bytes, ALPHABLEND, MASKBLT, STRETCHDIBITS};
 use second::Clip;
 use std::fmt;
 
-/// The most records a journal may have.
-pub const MOST_RECORDS: u64 = 20_000_000;
+/// The most records a journal may have, as counts in use are.
+pub const MOST_RECORDS: u64 = MOST_JOURNAL as u64;
 /// Its length in bytes.
-pub const LONGEST_JOURNAL: usize = MOST_RECORDS as usize * 12;
+pub const LONGEST_JOURNAL: usize = MOST_JOURNAL * JOURNAL_RECORD;
 /// The longest journal and record that a case lends.
-pub const JOURNAL_BUFFER: usize = LONGEST_JOURNAL + 48;
-pub const RECORD_BUFFER: usize = LONGEST + 4_096;
+pub const JOURNAL_BUFFER: usize = LONGEST_JOURNAL + 4 * JOURNAL_RECORD;
+pub const RECORD_BUFFER: usize = MOST_RECORD + 4_096;
 
 /// What a call is lent beside the record.
 #[derive(Clone, Debug)]
@@ -52,7 +55,7 @@ pub enum Case {
     LongJournal(Stage, Vec<Step>, usize),
 }
 
-fn surface(r: &mut Random, pixels: usize) -> Vec<u32> {
+pub fn surface(r: &mut Random, pixels: usize) -> Vec<u32> {
     r.bytes(4 * pixels).chunks_exact(4).map(|b| u32::from_le_bytes([b[0], b[1], b[2], b[3]])).collect()
 }
 
@@ -96,14 +99,14 @@ fn odd_surface(r: &mut Random) -> (u32, u32, usize) {
     }
 }
 
-/// A count in use above `records` or, now and then, just lawful. Some are small once multiplied by 12 in 64 bits.
+/// A count in use above `records` or, now and then, just lawful. Some are small once multiplied by a record's
+/// length in 64 bits.
 fn odd_count(r: &mut Random, records: u64) -> u64 {
+    const WRAPS: u64 = u64::MAX / JOURNAL_RECORD as u64;
     match r.below(8) {
         0..=2 => records + 1 + r.below(3),
         3 => records + (1 << 32),
-        4 => {
-            r.pick(&[u64::MAX, 1 << 63, (1 << 63) - 1, 1 << 62, u64::MAX / 12, u64::MAX / 12 + 1, (1 << 62) + records])
-        }
+        4 => r.pick(&[u64::MAX, 1 << 63, (1 << 63) - 1, 1 << 62, WRAPS, WRAPS + 1, (1 << 62) + records]),
         5 => (1 << 32) | r.below(records + 1),
         6 => r.long(),
         _ => records,
@@ -140,14 +143,14 @@ pub fn clip(r: &mut Random, width: u32, height: u32) -> Clip {
 }
 
 fn play(r: &mut Random, width: u32, height: u32, sound_percent: u64) -> Play {
-    let aim = Aim { width: width.clamp(1, 4_096), height: height.clamp(1, 4_096) };
-    Play { record: records::any(r, aim, sound_percent), clip: clip(r, width, height), brush: r.word() }
+    let aim = Aim { width: width.clamp(1, MOST_SIDE), height: height.clamp(1, MOST_SIDE) };
+    Play { record: makers::any(r, aim, sound_percent), clip: clip(r, width, height), brush: r.word() }
 }
 
 /// The records that a play would take on this surface, if the second player accepts it.
 fn needed(play: &Play, width: u32, height: u32) -> Option<u64> {
-    let lawful = (1..=4_096).contains(&width) && (1..=4_096).contains(&height);
-    match second::record::check(&play.record) {
+    let lawful = (1..=MOST_SIDE).contains(&width) && (1..=MOST_SIDE).contains(&height);
+    match second::check(&play.record) {
         Ok(sound) if lawful => Some(second::play::places(&sound, width, height, &play.clip).len() as u64 + 1),
         _ => None,
     }
@@ -170,17 +173,22 @@ fn lead(r: &mut Random) -> [usize; 3] {
     [r.below(4) as usize, r.below(16) as usize, r.below(8) as usize]
 }
 
+/// Bytes that are no whole journal record.
+fn part_of_record(r: &mut Random) -> usize {
+    1 + r.below(JOURNAL_RECORD as u64 - 1) as usize
+}
+
 /// A stage with `used` and `free` records, or with a fault in surface, journal or count.
 fn stage(r: &mut Random, sides: (u32, u32), used: u64, free: u64) -> Stage {
     let (mut width, mut height, mut pixels) = (sides.0, sides.1, sides.0 as usize * sides.1 as usize);
     if r.once_in(20) {
         (width, height, pixels) = odd_surface(r);
     }
-    let mut length = (used + free) as usize * 12;
+    let mut length = (used + free) as usize * JOURNAL_RECORD;
     let mut count = used;
     match r.below(40) {
-        0 => length += 1 + r.below(11) as usize,
-        1 => length = length.saturating_sub(1 + r.below(11) as usize),
+        0 => length += part_of_record(r),
+        1 => length = length.saturating_sub(part_of_record(r)),
         2 | 3 => count = odd_count(r, used + free),
         _ => {}
     }
@@ -198,8 +206,8 @@ fn single_play(r: &mut Random) -> Case {
 const MARK: u32 = u32::MAX;
 
 fn write_record(journal: &mut [u8], k: usize, numbers: [u32; 3]) {
-    for (n, place) in numbers.into_iter().zip(journal[12 * k..].chunks_exact_mut(4)) {
-        place.copy_from_slice(&n.to_le_bytes());
+    for (j, n) in numbers.into_iter().enumerate() {
+        bytes::set(journal, JOURNAL_RECORD * k + 4 * j, n);
     }
 }
 
@@ -207,7 +215,7 @@ fn write_record(journal: &mut [u8], k: usize, numbers: [u32; 3]) {
 fn forged(r: &mut Random, width: u32, height: u32) -> (Vec<u8>, u64) {
     let before = if r.once_in(60) { r.below(3_000) } else { r.below(40) };
     let behind = r.below(4);
-    let mut journal = r.bytes((before + 1 + behind) as usize * 12);
+    let mut journal = r.bytes((before + 1 + behind) as usize * JOURNAL_RECORD);
     let named = match r.below(12) {
         0..=5 => r.below(before + 1) as u32,
         6..=8 => before as u32,
@@ -240,7 +248,7 @@ fn forged(r: &mut Random, width: u32, height: u32) -> (Vec<u8>, u64) {
         write_record(&mut journal, k as usize, [off[0], off[1], old]);
     }
     let mark = if r.percent(90) { MARK } else { r.pick_or(&[0, MARK - 1, MARK >> 1, 1 << 31], Random::word) };
-    let third = r.pick_or(&[0x72, 0x4E, 0x51, 0, MARK], Random::word);
+    let third = r.pick_or(&[ALPHABLEND, MASKBLT, STRETCHDIBITS, 0, MARK], Random::word);
     write_record(&mut journal, before as usize, [mark, named, third]);
     (journal, before + 1)
 }
@@ -252,23 +260,23 @@ fn single_undo(r: &mut Random) -> Case {
         // Nothing in use, with whatever journal.
         0..=1 => {
             let records = r.below(10) as usize;
-            s.journal = r.bytes(12 * records);
+            s.journal = r.bytes(JOURNAL_RECORD * records);
             s.used = 0;
         }
         // Any bytes.
         2 => {
             let records = 1 + r.below(20);
-            s.journal = r.bytes(12 * records as usize);
+            s.journal = r.bytes(JOURNAL_RECORD * records as usize);
             s.used = 1 + r.below(records);
         }
         _ => (s.journal, s.used) = forged(r, s.width, s.height),
     }
     match r.below(40) {
         0..=1 => {
-            let length = s.journal.len() + 1 + r.below(11) as usize;
+            let length = s.journal.len() + part_of_record(r);
             s.journal.resize(length, 0);
         }
-        2..=3 => s.used = odd_count(r, s.journal.len() as u64 / 12),
+        2..=3 => s.used = odd_count(r, (s.journal.len() / JOURNAL_RECORD) as u64),
         // A shorter count: the record before is read as the closing one.
         4 => s.used = s.used.saturating_sub(1),
         _ => {}
@@ -278,7 +286,7 @@ fn single_undo(r: &mut Random) -> Case {
 
 fn read(r: &mut Random) -> Case {
     let (width, height) = sides(r);
-    let record = records::any(r, Aim { width, height }, 35);
+    let record = makers::any(r, Aim { width, height }, 35);
     let mask = r.pick(&[1, 1, 2, 0x100, 1 << 16, 1 << 31, u32::MAX]);
     Case::Read(record, mask)
 }
@@ -312,7 +320,7 @@ fn pile(r: &mut Random) -> Case {
         width: sides.0,
         height: sides.1,
         surface: surface(r, pixels as usize),
-        journal: r.bytes(12 * records as usize),
+        journal: r.bytes(JOURNAL_RECORD * records as usize),
         used: 0,
         lead: lead(r),
     };
@@ -327,9 +335,9 @@ fn list(r: &mut Random) -> Case {
     if r.percent(50) && s.surface.len() > 1 {
         // Undos may go down into a journal that no play wrote.
         let (journal, used) = forged(r, s.width, s.height);
-        let free = s.journal.len() / 12 * 12;
+        let free = s.journal.len() / JOURNAL_RECORD * JOURNAL_RECORD;
         s.journal.resize(free, 0);
-        s.journal.splice(0..0, journal[..12 * used as usize].iter().copied());
+        s.journal.splice(0..0, journal[..JOURNAL_RECORD * used as usize].iter().copied());
         s.used = used;
     }
     Case::List(s, steps)
@@ -341,16 +349,16 @@ fn long_record(r: &mut Random) -> Case {
     let (used, free) = (r.below(5), 200);
     let stage = stage(r, sides, used, free);
     let length = match r.below(8) {
-        0..=1 => LONGEST,
-        2 => LONGEST - 4,
-        3 => LONGEST + 1,
-        4..=5 => LONGEST + 4,
-        6 => LONGEST + 4 * (1 + r.below(1_000)) as usize,
-        _ => LONGEST + 1 + r.below(4_000) as usize,
+        0..=1 => MOST_RECORD,
+        2 => MOST_RECORD - 4,
+        3 => MOST_RECORD + 1,
+        4..=5 => MOST_RECORD + 4,
+        6 => MOST_RECORD + 4 * (1 + r.below(1_000)) as usize,
+        _ => MOST_RECORD + 1 + r.below(4_000) as usize,
     };
     // Size mostly follows the length, so that only the length is at fault.
-    if r.percent(85) && play.record.len() >= 8 {
-        play.record[4..8].copy_from_slice(&(length as u32).to_le_bytes());
+    if r.percent(85) {
+        bytes::set(&mut play.record, SIZE, length as u32);
     }
     Case::LongRecord(stage, play, length)
 }
@@ -362,9 +370,9 @@ fn long_journal(r: &mut Random) -> Case {
     s.journal = Vec::new();
     let length = match r.below(8) {
         0..=3 => LONGEST_JOURNAL,
-        4..=5 => LONGEST_JOURNAL + 12,
-        6 => LONGEST_JOURNAL + 12 * (1 + r.below(4)) as usize,
-        _ => LONGEST_JOURNAL - 12 + r.below(25) as usize,
+        4..=5 => LONGEST_JOURNAL + JOURNAL_RECORD,
+        6 => LONGEST_JOURNAL + JOURNAL_RECORD * (1 + r.below(4)) as usize,
+        _ => LONGEST_JOURNAL - JOURNAL_RECORD + r.below(2 * JOURNAL_RECORD as u64 + 1) as usize,
     };
     s.used = match r.below(8) {
         0 => 0,

@@ -2,8 +2,8 @@
 
 use crate::calls::{Case, Play, Stage, Step, JOURNAL_BUFFER, MOST_RECORDS, RECORD_BUFFER};
 use crate::library;
-use crate::records::LONGEST;
 use crate::tally::{Call, Tally};
+use face::constants::{HEADER_AT, JOURNAL_RECORD, MOST_RECORD, NUMBERS, VIEW_AT};
 use second::{Answer, Clip, Pile};
 use std::fmt::Debug;
 use std::ops::Range;
@@ -39,7 +39,7 @@ pub fn same_reading(
     record: &[u8],
     mask: u32,
     status: u32,
-    numbers: &[u64; library::NUMBERS],
+    numbers: &[u64; NUMBERS],
     palette: &[u32; 256],
 ) -> Result<(), String> {
     let wanted = second::reading(record, mask != 0);
@@ -60,7 +60,7 @@ pub fn same_reading(
         wanted.alpha as u64,
     ];
     same_all("numbers of the reading", &numbers[..], &list[..])?;
-    for (what, k) in [("header part", 0), ("view", 2)] {
+    for (what, k) in [("header part", HEADER_AT), ("view", VIEW_AT)] {
         let part = |at: u64, length: u64| {
             record.get(at as usize..(at as usize).checked_add(length as usize)?).map(|bytes| bytes.as_ptr_range())
         };
@@ -221,7 +221,7 @@ impl Judge {
             Case::List(stage, steps) => self.list(stage, steps, None),
             Case::Pile(stage, steps) => {
                 self.tally.piles += 1;
-                let records = stage.journal.len() as u64 / 12;
+                let records = (stage.journal.len() / JOURNAL_RECORD) as u64;
                 let pile = Pile::new(&stage.surface, records, stage.width, stage.height);
                 self.list(stage, steps, Some(pile))
             }
@@ -245,7 +245,7 @@ impl Judge {
             Step::Play(play) => {
                 self.tally.count(Call::Play, got.status);
                 if got.status == 0 {
-                    let sound = second::record::check(&play.record).expect("just accepted");
+                    let sound = second::check(&play.record).expect("just accepted");
                     self.tally.drawn(&play.record, &sound, got.pixels);
                 }
             }
@@ -289,7 +289,7 @@ impl Judge {
         }
         same_reading(record, mask, status, &numbers, &palette).map_err(|text| format!("reading {mask}: {text}"))?;
         self.tally.count(Call::Read, status);
-        self.tally.long_records += u64::from(status == 3 && record.len() > LONGEST);
+        self.tally.long_records += u64::from(status == 3 && record.len() > MOST_RECORD);
         Ok(())
     }
 
@@ -300,7 +300,7 @@ impl Judge {
         let record = &long.record[..length];
         let got = Players::new(stage).call(Move::Play(record, play.clip, play.brush), None, self.talk)?;
         self.tally.count(Call::Play, got.status);
-        self.tally.long_records += u64::from(got.status == 3 && length > LONGEST);
+        self.tally.long_records += u64::from(got.status == 3 && length > MOST_RECORD);
         self.read(record, 0)?;
         self.read(record, 1)?;
         same_all("record after the calls", &long.record[begin.clone()], &play.record)?;
@@ -323,7 +323,7 @@ impl Judge {
             };
             let got = players.call(one, Some(&mut long), self.talk).map_err(fault)?;
             // Where the call may have written, and both ends.
-            let at = |used: u64| used.saturating_mul(12).min(length as u64) as usize;
+            let at = |used: u64| used.saturating_mul(JOURNAL_RECORD as u64).min(length as u64) as usize;
             let (low, high) = (at(before.min(players.our_used)), at(before.max(players.our_used)));
             let near = low.saturating_sub(WINDOW)..(high + WINDOW).min(JOURNAL_BUFFER);
             for part in [0..WINDOW, near, JOURNAL_BUFFER - WINDOW..JOURNAL_BUFFER] {
@@ -334,8 +334,8 @@ impl Judge {
                 written.push(low..high);
             }
             // Is the number of records all that is wrong with the journal?
-            let records = length as u64 / 12;
-            let over = records > MOST_RECORDS && records * 12 == length as u64 && before <= records;
+            let records = (length / JOURNAL_RECORD) as u64;
+            let over = records > MOST_RECORDS && length % JOURNAL_RECORD == 0 && before <= records;
             self.tally.long_journals += u64::from(got.status == 2 && over);
             self.agreed(step, got);
         }

@@ -91,7 +91,7 @@ impl Tally {
             self.empty += 1;
             return;
         }
-        let kind = match sound.operation {
+        let kind = match sound.fixed.operation {
             Operation::Blend { format, .. } => {
                 self.formats[format as usize] += 1;
                 0
@@ -114,8 +114,9 @@ impl Tally {
         self.depths[kind][depth] += 1;
         self.headers[usize::from(record[dib.header.offset as usize] == 108)] += 1;
         self.orders[usize::from(dib.top_down)] += 1;
-        self.mirrored[0] += u64::from((sound.cx_src < 0) != (sound.cx_dest < 0));
-        self.mirrored[1] += u64::from((sound.cy_src < 0) != (sound.cy_dest < 0));
+        let fixed = &sound.fixed;
+        self.mirrored[0] += u64::from((fixed.cx_src < 0) != (fixed.cx_dest < 0));
+        self.mirrored[1] += u64::from((fixed.cy_src < 0) != (fixed.cy_dest < 0));
         if dib.compression == 3 {
             for (k, mask) in [dib.red, dib.green, dib.blue, dib.alpha].into_iter().enumerate() {
                 self.widths[k][(mask as u64).count_ones() as usize] += 1;

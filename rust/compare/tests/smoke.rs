@@ -1,9 +1,10 @@
 //! A quick look that all is in order; the programs do the work.
 
 use compare::judge::Judge;
+use compare::makers::{largest, sound, Aim, Wish};
 use compare::random::Random;
-use compare::records::{largest, sound, Aim, Wish, LONGEST};
 use compare::run;
+use face::constants::MOST_RECORD;
 
 #[test]
 fn two_thousand_calls() {
@@ -26,7 +27,7 @@ fn sound_records() {
         assert!(record.bytes.len() < 4_000_000, "{aim:?}");
     }
     for record in [largest::stretch(1), largest::blend(1), largest::mask_blit(1)] {
-        assert_eq!((record.len(), second::status(&record)), (LONGEST, 0));
+        assert_eq!((record.len(), second::status(&record)), (MOST_RECORD, 0));
         assert_eq!(second::status(&largest::too_long(record)), 3);
     }
 }

@@ -1,12 +1,7 @@
 //! The blends.
 
-use crate::sample::Colour;
-
-/// The whole number nearest to top / bottom (top not negative, bottom
-/// positive): floor(top/bottom + 1/2), worked out in whole numbers.
-pub fn nearest(top: i128, bottom: i128) -> i128 {
-    (2 * top + bottom) / (2 * bottom)
-}
+use crate::arithmetic::nearest;
+use crate::colour::Colour;
 
 /// "Each is exact, then rounded to nearest, then cut to 255 where above."
 fn finish(top: i128, bottom: i128) -> i64 {

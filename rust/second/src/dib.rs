@@ -1,5 +1,6 @@
 //! A picture's header: what it says, and whether it is lawful.
 
+use crate::arithmetic::{bit_of, power, without_sign};
 use crate::fields::{number, signed, unsigned};
 
 /// A stretch of the record's own bytes.
@@ -55,19 +56,6 @@ fn header(part: &[u8]) -> Option<Header> {
         compression: unsigned(part, 16),
         used: unsigned(part, 32),
     })
-}
-
-/// 2 to the power `n`, for 0 to 62.
-pub fn power(n: i64) -> i64 {
-    1i64 << n
-}
-
-fn without_sign(n: i64) -> i64 {
-    if n < 0 {
-        -n
-    } else {
-        n
-    }
 }
 
 /// "With a 40-byte header, and only then, BI_BITFIELDS is followed by three
@@ -141,11 +129,6 @@ fn masks(part: &[u8]) -> (i64, i64, i64, i64) {
     (unsigned(part, 40), unsigned(part, 44), unsigned(part, 48), alpha)
 }
 
-/// Bit `k` of a number that is not negative.
-pub fn bit_of(n: i64, k: i64) -> i64 {
-    (n >> k) % 2
-}
-
 /// "its width is the number of its ones"
 pub fn ones(mask: i64) -> i64 {
     let mut count = 0;
@@ -168,7 +151,7 @@ pub fn zeros_below(mask: i64) -> i64 {
 /// 8 ... all lie in the pixel's bits."
 fn mask_passes(mask: i64, bits: i64) -> bool {
     let width = ones(mask);
-    if width < 1 || width > 8 {
+    if !(1..=8).contains(&width) {
         return false;
     }
     let run = (power(width) - 1) * power(zeros_below(mask));

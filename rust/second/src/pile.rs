@@ -1,7 +1,9 @@
 //! "The pile of condition 3"
 
-use crate::play::{new_pixel, place_of, places, Answer};
-use crate::record::check;
+use crate::answer::Answer;
+use crate::journal::{sheet_passes, MOST_RECORDS};
+use crate::play::{new_pixel, place_of, places};
+use crate::refusals::check;
 use crate::region::Clip;
 
 /// "its plays, none at first, each with all that came with its call"
@@ -28,7 +30,7 @@ impl Pile {
     /// pass, any bytes in the journal, count in use 0."
     pub fn new(surface: &[u32], records: u64, width: u32, height: u32) -> Pile {
         assert!(
-            crate::journal::sheet_passes(surface.len(), width, height) && records <= 20_000_000,
+            sheet_passes(surface.len(), width, height) && records <= MOST_RECORDS,
             "a pile starts from a sheet and journal that 1 and 2 let pass"
         );
         Pile { start: surface.to_vec(), records, width, height, plays: Vec::new() }

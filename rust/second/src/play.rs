@@ -1,48 +1,25 @@
 //! The play.
 
+use crate::answer::Answer;
 use crate::blend::blend;
+use crate::colour::{packed, unpacked, Colour};
 use crate::dib::Dib;
 use crate::journal::{journal_passes, set_entry, sheet_passes, CLOSING, RECORD};
 use crate::raster::raster;
-use crate::record::{check, Operation, Sound};
-use crate::region::{clipped_target, covered, mask_step, source_step, Clip};
-use crate::sample::{colour, stored, Colour};
-
-/// A call's answer.
-#[derive(Clone, Copy, Debug, PartialEq, Eq)]
-pub struct Answer {
-    pub status: u32,
-    pub pixels: u64,
-}
-
-impl Answer {
-    /// "Each returns its number and 0 pixels"
-    pub fn refused(status: u32) -> Answer {
-        Answer { status, pixels: 0 }
-    }
-}
-
-/// "one 32-bit number a pixel ...: alpha·2^24 + red·2^16 + green·2^8 + blue"
-fn unpacked(pixel: u32) -> Colour {
-    let n = pixel as i64;
-    Colour { red: n / 65_536 % 256, green: n / 256 % 256, blue: n % 256, alpha: n / 16_777_216 }
-}
-
-fn packed(c: Colour) -> u32 {
-    (c.alpha * 16_777_216 + c.red * 65_536 + c.green * 256 + c.blue) as u32
-}
+use crate::record::{Fixed, Operation, Sound};
+use crate::refusals::check;
+use crate::region::{clipped_target, mask_step, source_step, Clip};
+use crate::sample::{colour, stored};
 
 /// The source pixel that target place (x, y) reads.  i and j count from the
 /// whole target's left and top, before the clip (A31).
-fn source_colour(record: &[u8], sound: &Sound, dib: &Dib, x: i64, y: i64, format: i64) -> Colour {
-    let i = x - sound.target_columns().first;
-    let j = y - sound.target_rows().first;
-    let across = covered(sound.x_src, sound.cx_src);
-    let down = covered(sound.y_src, sound.cy_src);
-    let column = across.first
-        + source_step(i, across.length(), sound.target_columns().length(), (sound.cx_src < 0) != (sound.cx_dest < 0));
-    let row = down.first
-        + source_step(j, down.length(), sound.target_rows().length(), (sound.cy_src < 0) != (sound.cy_dest < 0));
+fn source_colour(record: &[u8], fixed: &Fixed, dib: &Dib, x: i64, y: i64, format: i64) -> Colour {
+    let (columns, rows) = (fixed.target_columns(), fixed.target_rows());
+    let (across, down) = (fixed.source_columns(), fixed.source_rows());
+    let mirrored = (fixed.cx_src < 0) != (fixed.cx_dest < 0);
+    let upside_down = (fixed.cy_src < 0) != (fixed.cy_dest < 0);
+    let column = across.first + source_step(x - columns.first, across.length(), columns.length(), mirrored);
+    let row = down.first + source_step(y - rows.first, down.length(), rows.length(), upside_down);
     colour(record, dib, column, row, format)
 }
 
@@ -52,7 +29,7 @@ fn source_24(record: &[u8], sound: &Sound, x: i64, y: i64) -> i64 {
     match &sound.source {
         None => 0,
         Some(dib) => {
-            let c = source_colour(record, sound, dib, x, y, 0);
+            let c = source_colour(record, &sound.fixed, dib, x, y, 0);
             c.red * 65_536 + c.green * 256 + c.blue
         }
     }
@@ -61,10 +38,10 @@ fn source_24(record: &[u8], sound: &Sound, x: i64, y: i64) -> i64 {
 /// "its bit is used, not its colour"
 fn mask_bit(record: &[u8], sound: &Sound, x: i64, y: i64) -> i64 {
     let dib = sound.mask.as_ref().expect("passes 13");
-    let i = x - sound.target_columns().first;
-    let j = y - sound.target_rows().first;
-    let column = mask_step(sound.x_mask, i, dib.width);
-    let row = mask_step(sound.y_mask, j, dib.rows);
+    let i = x - sound.fixed.target_columns().first;
+    let j = y - sound.fixed.target_rows().first;
+    let column = mask_step(sound.fixed.x_mask, i, dib.width);
+    let row = mask_step(sound.fixed.y_mask, j, dib.rows);
     stored(record, dib, column, row)
 }
 
@@ -75,10 +52,10 @@ pub fn new_pixel(record: &[u8], sound: &Sound, brush: u32, x: i64, y: i64, old: 
     let target = old as i64 % 16_777_216;
     // "Target alpha stays."
     let kept_alpha = old as i64 - target;
-    match sound.operation {
-        Operation::Blend { constant, format } => {
+    match sound.fixed.operation {
+        Operation::Blend { constant, format, .. } => {
             let dib = sound.source.as_ref().expect("passes 11");
-            let s = source_colour(record, sound, dib, x, y, format);
+            let s = source_colour(record, &sound.fixed, dib, x, y, format);
             packed(blend(s, unpacked(old), constant, format))
         }
         Operation::Masked { background, foreground } => {
@@ -97,7 +74,7 @@ pub fn new_pixel(record: &[u8], sound: &Sound, brush: u32, x: i64, y: i64, old: 
 
 /// The clipped target of a sound record on a sheet.
 pub fn places(sound: &Sound, width: u32, height: u32, clip: &Clip) -> Vec<(u32, u32)> {
-    clipped_target(width, height, clip, &sound.bounds, sound.target_columns(), sound.target_rows())
+    clipped_target(width, height, clip, &sound.fixed.bounds, sound.fixed.target_columns(), sound.fixed.target_rows())
 }
 
 /// Where pixel (x, y) stands: "row by row from the top".
@@ -150,7 +127,7 @@ pub fn play(
         surface[place_of(x, y, width)] = new[k];
     }
     // "Closing record: 0xFFFFFFFF, number of pixel records, record type."
-    set_entry(journal, start + places.len(), (CLOSING as u32, places.len() as u32, sound.kind.number()));
+    set_entry(journal, start + places.len(), (CLOSING as u32, places.len() as u32, sound.fixed.kind.number()));
     *used += places.len() as u64 + 1;
     // "An accepted play answers 0 with that count."
     Answer { status: 0, pixels: places.len() as u64 }

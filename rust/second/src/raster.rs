@@ -1,6 +1,6 @@
 //! The raster operation.
 
-use crate::dib::{bit_of, power};
+use crate::arithmetic::{bit_of, power};
 
 /// "R needs a source when bits k and k + 2 differ for some k of 0, 1, 4, 5."
 pub fn needs_source(r: i64) -> bool {

@@ -1,7 +1,7 @@
 //! The reading of a record's source or mask.
 
 use crate::dib::Part;
-use crate::record::check;
+use crate::refusals::check;
 
 #[derive(Clone, Debug, PartialEq, Eq)]
 pub struct Reading {

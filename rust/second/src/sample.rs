@@ -1,17 +1,9 @@
 //! One pixel out of a picture.
 
-use crate::blend::nearest;
-use crate::dib::{bit_of, ones, power, row_length, zeros_below, Dib};
+use crate::arithmetic::{bit_of, nearest, power};
+use crate::colour::Colour;
+use crate::dib::{ones, row_length, zeros_below, Dib};
 use crate::fields::number;
-
-/// Four channels of 0 to 255.
-#[derive(Clone, Copy, Debug, PartialEq, Eq)]
-pub struct Colour {
-    pub red: i64,
-    pub green: i64,
-    pub blue: i64,
-    pub alpha: i64,
-}
 
 /// "A channel v of w bits becomes round(255·v/(2^w − 1)); no tie exists."
 pub fn widen(v: i64, w: i64) -> i64 {

@@ -1,10 +1,13 @@
 //! The script format: opcodes 0 to 6 read, run and printed.  Words in
 //! quotation marks are the script format's.
 
-use crate::journal::undo;
-use crate::play::{play, Answer};
+use crate::answer::Answer;
+use crate::dib::Part;
+use crate::fields::{signed, unsigned};
+use crate::play::play;
 use crate::reading::reading;
 use crate::region::Clip;
+use crate::undo::undo;
 use std::io::{self, Write};
 
 /// "sheet pixels | 262,144 numbers"
@@ -65,13 +68,13 @@ impl<'a> Input<'a> {
     /// "a row of 32-bit little-endian numbers ("words")"
     fn word(&mut self) -> Result<u32, Bad> {
         let b = self.take(4)?;
-        Ok(crate::fields::unsigned(b, 0) as u32)
+        Ok(unsigned(b, 0) as u32)
     }
 
     /// "Signed arguments (clip, search rectangle) are in two's complement."
     fn signed(&mut self) -> Result<i32, Bad> {
         let b = self.take(4)?;
-        Ok(crate::fields::signed(b, 0) as i32)
+        Ok(signed(b, 0) as i32)
     }
 
     /// "Byte data is written as a word `L`, then `L` bytes, then zero bytes up
@@ -150,7 +153,7 @@ fn print_answer(out: &mut dyn Write, a: Answer, used: u64) -> io::Result<()> {
 
 fn print_reading(out: &mut dyn Write, record: &[u8], mask: bool) -> io::Result<()> {
     let r = reading(record, mask);
-    let part = |p: &crate::dib::Part| {
+    let part = |p: &Part| {
         let start = p.offset as usize;
         &record[start..start + p.length as usize]
     };
@@ -177,84 +180,99 @@ fn print_reading(out: &mut dyn Write, record: &[u8], mask: bool) -> io::Result<(
     )
 }
 
+/// What a call has printed, unless the script has a fault.
+type Called = Result<io::Result<()>, Bad>;
+
+/// "Nothing follows opcode 0 in the input."  Judged before the sums are
+/// printed.
+fn end(input: &mut Input, s: &mut State, out: &mut dyn Write) -> Called {
+    if !input.at_end() {
+        return Err(Bad);
+    }
+    Ok(writeln!(out, "sheet {}", sum_of_words(&s.pixels)).and_then(|_| writeln!(out, "journal {}", sum(&s.journal))))
+}
+
+fn play_next(input: &mut Input, s: &mut State, out: &mut dyn Write) -> Called {
+    let clip = Clip { left: input.signed()?, top: input.signed()?, right: input.signed()?, bottom: input.signed()? };
+    let brush = input.word()?;
+    // "`tag` is always there; without item 11 it is not looked at."
+    input.word()?;
+    let record = input.data()?;
+    let answer = play(
+        &mut s.pixels[..s.lent_pixels],
+        s.width,
+        s.height,
+        &mut s.journal[..s.lent_journal],
+        &mut s.used,
+        record,
+        clip,
+        brush,
+    );
+    Ok(print_answer(out, answer, s.used))
+}
+
+fn undo_next(s: &mut State, out: &mut dyn Write) -> Called {
+    let answer = undo(&mut s.pixels[..s.lent_pixels], s.width, s.height, &s.journal[..s.lent_journal], &mut s.used);
+    Ok(print_answer(out, answer, s.used))
+}
+
+/// "which (0 source, 1 mask)"; another number is a fault.
+fn read_next(input: &mut Input, out: &mut dyn Write) -> Called {
+    let which = input.word()?;
+    if which > 1 {
+        return Err(Bad);
+    }
+    let record = input.data()?;
+    Ok(print_reading(out, record, which == 1))
+}
+
+/// "P' is at most P, J' at most J"
+fn lend(input: &mut Input, s: &mut State) -> Called {
+    let width = input.word()?;
+    let height = input.word()?;
+    let p = input.word()? as usize;
+    let j = input.word()? as usize;
+    if p > s.pixels.len() || j > s.journal.len() {
+        return Err(Bad);
+    }
+    s.width = width;
+    s.height = height;
+    s.lent_pixels = p;
+    s.lent_journal = j;
+    Ok(Ok(()))
+}
+
+fn count(input: &mut Input, s: &mut State) -> Called {
+    s.used = input.word()? as u64;
+    Ok(Ok(()))
+}
+
+/// "offset + 4 is at most J"
+fn poke(input: &mut Input, s: &mut State) -> Called {
+    let offset = input.word()?;
+    let word = input.word()?;
+    if offset as u64 + 4 > s.journal.len() as u64 {
+        return Err(Bad);
+    }
+    let at = offset as usize;
+    s.journal[at..at + 4].copy_from_slice(&word.to_le_bytes());
+    Ok(Ok(()))
+}
+
 /// One call.  True after opcode 0.
 fn call(input: &mut Input, s: &mut State, out: &mut dyn Write) -> Result<io::Result<bool>, Bad> {
-    match input.word()? {
-        0 => {
-            // "Nothing follows opcode 0 in the input."  Judged before the
-            // sums are printed.
-            if !input.at_end() {
-                return Err(Bad);
-            }
-            let printed = writeln!(out, "sheet {}", sum_of_words(&s.pixels))
-                .and_then(|_| writeln!(out, "journal {}", sum(&s.journal)));
-            Ok(printed.map(|_| true))
-        }
-        1 => {
-            let clip =
-                Clip { left: input.signed()?, top: input.signed()?, right: input.signed()?, bottom: input.signed()? };
-            let brush = input.word()?;
-            // "`tag` is always there; without item 11 it is not looked at."
-            input.word()?;
-            let record = input.data()?;
-            let answer = play(
-                &mut s.pixels[..s.lent_pixels],
-                s.width,
-                s.height,
-                &mut s.journal[..s.lent_journal],
-                &mut s.used,
-                record,
-                clip,
-                brush,
-            );
-            Ok(print_answer(out, answer, s.used).map(|_| false))
-        }
-        2 => {
-            let answer =
-                undo(&mut s.pixels[..s.lent_pixels], s.width, s.height, &s.journal[..s.lent_journal], &mut s.used);
-            Ok(print_answer(out, answer, s.used).map(|_| false))
-        }
-        3 => {
-            // "which (0 source, 1 mask)"; another number is a fault.
-            let which = input.word()?;
-            if which > 1 {
-                return Err(Bad);
-            }
-            let record = input.data()?;
-            Ok(print_reading(out, record, which == 1).map(|_| false))
-        }
-        4 => {
-            let width = input.word()?;
-            let height = input.word()?;
-            let p = input.word()? as usize;
-            let j = input.word()? as usize;
-            // "P' is at most P, J' at most J"
-            if p > s.pixels.len() || j > s.journal.len() {
-                return Err(Bad);
-            }
-            s.width = width;
-            s.height = height;
-            s.lent_pixels = p;
-            s.lent_journal = j;
-            Ok(Ok(false))
-        }
-        5 => {
-            s.used = input.word()? as u64;
-            Ok(Ok(false))
-        }
-        6 => {
-            let offset = input.word()?;
-            let word = input.word()?;
-            // "offset + 4 is at most J"
-            if offset as u64 + 4 > s.journal.len() as u64 {
-                return Err(Bad);
-            }
-            let at = offset as usize;
-            s.journal[at..at + 4].copy_from_slice(&word.to_le_bytes());
-            Ok(Ok(false))
-        }
+    let opcode = input.word()?;
+    let printed = match opcode {
+        0 => end(input, s, out),
+        1 => play_next(input, s, out),
+        2 => undo_next(s, out),
+        3 => read_next(input, out),
+        4 => lend(input, s),
+        5 => count(input, s),
+        6 => poke(input, s),
         _ => Err(Bad),
-    }
+    }?;
+    Ok(printed.map(|_| opcode == 0))
 }
 
 /// Runs a whole script.  What was printed before a fault stays printed; then

@@ -1,48 +1,26 @@
 //! Document 01, "Numbers to check by", all of them.
 
+use records::{bytes::words, Header, Picture, Record, STRETCHDIBITS};
 use second::blend::{format_0, format_1};
 use second::dib::row_length;
+use second::journal::RECORD;
 use second::raster::raster;
 use second::region::{mask_step, source_step};
 use second::sample::{stored, widen};
-use second::{play, status, undo, Answer, Clip};
+use second::{check, play, status, undo, Answer, Clip};
 
 const ALL: Clip = Clip { left: 0, top: 0, right: 2, bottom: 1 };
 
-/// A record of type 0x51 from its words.
-fn record(words: &[u32], rest: &[u8]) -> Vec<u8> {
-    let mut bytes: Vec<u8> = words.iter().flat_map(|w| w.to_le_bytes()).collect();
-    bytes.extend_from_slice(rest);
-    bytes
-}
-
 /// Type 0x51 without source: target (0, 0) 2 by 1, ROP 0x00F00021.
 fn pattern() -> Vec<u8> {
-    record(&[0x51, 80, 0, 0, 1, 0, 0, 0, 0, 0, 0, 0, 0, 0, 0, 0, 0, 0x00F0_0021, 2, 1], &[])
+    Record::new(STRETCHDIBITS, [0, 0, 2, 1], 0x00F0_0021).bounded([0, 0, 1, 0]).bytes()
 }
 
-/// Type 0x51 with a picture: header of 40 bytes, then the table, then bits.
+/// Type 0x51 with a picture of these pixels, of which it draws the first.
 fn pictured(width: i32, height: i32, bits: u16, table: &[u32], pixels: &[u8]) -> Vec<u8> {
-    let header = 40 + 4 * table.len() as u32;
-    let size = (80 + header + pixels.len() as u32 + 3) / 4 * 4;
-    let mut r = record(
-        &[0x51, size, 0, 0, 1, 0, 0, 0, 0, 0, 1, 1, 80, header, 80 + header, pixels.len() as u32, 0, 0x00CC_0020, 1, 1],
-        &[],
-    );
-    r.extend_from_slice(&40u32.to_le_bytes());
-    r.extend_from_slice(&width.to_le_bytes());
-    r.extend_from_slice(&height.to_le_bytes());
-    r.extend_from_slice(&1u16.to_le_bytes());
-    r.extend_from_slice(&bits.to_le_bytes());
-    for w in [0u32, 0, 0, 0, table.len() as u32, 0] {
-        r.extend_from_slice(&w.to_le_bytes());
-    }
-    for w in table {
-        r.extend_from_slice(&w.to_le_bytes());
-    }
-    r.extend_from_slice(pixels);
-    r.resize(size as usize, 0);
-    r
+    let header = Header { used: table.len() as u32, ..Header::new(40, width, height, bits) };
+    let picture = Picture { header, table: table.to_vec(), pixels: pixels.to_vec() };
+    Record::new(STRETCHDIBITS, [0, 0, 1, 1], 0x00CC_0020).from([0, 0, 1, 1], picture).bytes()
 }
 
 #[test]
@@ -107,7 +85,7 @@ fn mask_column() {
 fn four_bits() {
     let table: Vec<u32> = (0..16).map(|k| k * 0x010203).collect();
     let r = pictured(2, 1, 4, &table, &[0x1F, 0, 0, 0]);
-    let sound = second::record::check(&r).expect("sound");
+    let sound = check(&r).expect("sound");
     let dib = sound.source.as_ref().expect("present");
     assert_eq!(stored(&r, dib, 0, 0), 1);
     assert_eq!(stored(&r, dib, 1, 0), 15);
@@ -134,13 +112,13 @@ fn row_bytes_one_short() {
 #[test]
 fn whole_play() {
     let mut sheet = [0xFF00_0000u32, 0xFF00_00FF];
-    let mut journal = vec![0xA5u8; 36];
+    let mut journal = vec![0xA5u8; 3 * RECORD];
     let mut used = 0;
     let answer = play(&mut sheet, 2, 1, &mut journal, &mut used, &pattern(), ALL, 0x112233);
     assert_eq!(answer, Answer { status: 0, pixels: 2 });
     assert_eq!(sheet, [0xFF11_2233, 0xFF11_2233]);
     assert_eq!(used, 3);
-    let wanted = record(&[0, 0, 0xFF00_0000, 1, 0, 0xFF00_00FF, 0xFFFF_FFFF, 2, 0x51], &[]);
+    let wanted = words(&[0, 0, 0xFF00_0000, 1, 0, 0xFF00_00FF, 0xFFFF_FFFF, 2, 0x51]);
     assert_eq!(journal, wanted);
 
     let answer = undo(&mut sheet, 2, 1, &journal, &mut used);
@@ -154,7 +132,7 @@ fn whole_play() {
 
 #[test]
 fn whole_play_without_room() {
-    for (bytes, number) in [(24, 14), (35, 2)] {
+    for (bytes, number) in [(2 * RECORD, 14), (3 * RECORD - 1, 2)] {
         let mut sheet = [0xFF00_0000u32, 0xFF00_00FF];
         let mut journal = vec![0xA5u8; bytes];
         let mut used = 0;

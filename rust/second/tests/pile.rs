@@ -1,6 +1,9 @@
 //! Lists of plays and take-backs against the pile, and random records that
 //! must end without harm.
 
+use records::dib::{INFO, V4};
+use records::{operation, Header, Picture, Record, ALPHABLEND, MASKBLT, STRETCHDIBITS};
+use second::journal::{set_entry, MOST_RECORDS, RECORD};
 use second::{play, reading, status, undo, Answer, Clip, Pile};
 
 struct Random(u64);
@@ -21,119 +24,65 @@ impl Random {
     }
 }
 
-fn words(b: &mut Vec<u8>, list: &[u32]) {
-    for w in list {
-        b.extend_from_slice(&w.to_le_bytes());
-    }
-}
-
-/// A random header part and its bits.
-fn picture(r: &mut Random, bits: u32, width: i32, rows: i32) -> (Vec<u8>, Vec<u8>) {
-    let v4 = r.below(2) == 0;
+/// A random picture.
+fn picture(r: &mut Random, bits: u16, width: i32, rows: i32) -> Picture {
+    let size = if r.below(2) == 0 { V4 } else { INFO };
     let fields = (bits == 16 || bits == 32) && r.below(2) == 0;
     let used = if bits <= 8 { r.below((1 << bits) + 1) } else { r.below(3) };
     let height = if r.below(2) == 0 { rows } else { -rows };
-    let mut h = Vec::new();
-    words(&mut h, &[if v4 { 108 } else { 40 }, width as u32, height as u32, 1 + bits * 65_536]);
-    words(&mut h, &[if fields { 3 } else { 0 }, 0, 0, 0, used, 0]);
     let alpha = r.below(2);
     let masks =
         if bits == 16 { [0xF80, 0x70, 0xF, 0x7000 * alpha] } else { [0xFF, 0xFF00, 0xFF_0000, 0xFF00_0000 * alpha] };
-    if v4 {
-        words(&mut h, &masks);
-        words(&mut h, &[0; 13]);
-    } else if fields {
-        words(&mut h, &masks[..3]);
-    }
+    let header = Header { size, width, height, bits, used, masks: fields.then_some(masks) };
     let entries = if bits <= 8 && used == 0 { 1 << bits } else { used };
-    for _ in 0..entries {
-        let colour = r.next();
-        words(&mut h, &[colour]);
+    let table = (0..entries).map(|_| r.next()).collect();
+    let pixels = (0..header.rows_length()).map(|_| r.next() as u8).collect();
+    Picture { header, table, pixels }
+}
+
+/// The extent from the corner on, or turned round: it covers the same.
+fn turned(r: &mut Random, corner: i32, extent: i32) -> (i32, i32) {
+    if r.below(2) == 0 {
+        (corner + extent, -extent)
+    } else {
+        (corner, extent)
     }
-    let row = (width as u32 * bits + 31) / 32 * 4;
-    let bytes = (0..row * rows as u32).map(|_| r.next() as u8).collect();
-    (h, bytes)
 }
 
 /// A record that is mostly sound.
 fn record(r: &mut Random) -> Vec<u8> {
-    let kind = [0x72u32, 0x4E, 0x51][r.below(3) as usize];
+    let kind = [ALPHABLEND, MASKBLT, STRETCHDIBITS][r.below(3) as usize];
     let bits = [1, 4, 8, 16, 24, 32][r.below(6) as usize];
-    let fixed = match kind {
-        0x72 => 108,
-        0x4E => 128,
-        _ => 80,
-    };
     let (x, y) = (r.between(-4, 9), r.between(-4, 7));
     let (mut cx, mut cy) = (r.between(1, 7), r.between(1, 6));
     let (w, h) = (r.between(7, 10), r.between(6, 9));
     let (mut sx, mut sy) = (r.between(0, w - 7), r.between(0, h - 6));
     let (mut scx, mut scy) = (r.between(1, 7), r.between(1, 6));
-    if kind == 0x51 {
-        if r.below(2) == 0 {
-            cx = -cx;
-        }
-        if r.below(2) == 0 {
-            cy = -cy;
-        }
-        if r.below(2) == 0 {
-            sx += scx;
-            scx = -scx;
-        }
-        if r.below(2) == 0 {
-            sy += scy;
-            scy = -scy;
-        }
+    if kind == STRETCHDIBITS {
+        // The target is turned about its corner, the source in its place.
+        cx = turned(r, 0, cx).1;
+        cy = turned(r, 0, cy).1;
+        (sx, scx) = turned(r, sx, scx);
+        (sy, scy) = turned(r, sy, scy);
     }
-    let source = r.below(5) > 0;
-    let mut tail = Vec::new();
-    let mut four = [0u32; 8];
-    for k in 0..2 {
-        let there = if k == 0 { source } else { kind == 0x4E };
-        if there {
-            let (head, rows) = if k == 0 {
-                picture(r, bits, w, h)
-            } else {
-                let (mw, mh) = (r.between(1, 9), r.between(1, 9));
-                picture(r, 1, mw, mh)
-            };
-            four[4 * k] = fixed + tail.len() as u32;
-            four[4 * k + 1] = head.len() as u32;
-            tail.extend_from_slice(&head);
-            four[4 * k + 2] = fixed + tail.len() as u32;
-            four[4 * k + 3] = rows.len() as u32;
-            tail.extend_from_slice(&rows);
-        }
-    }
-    let mut b = Vec::new();
-    words(&mut b, &[kind, fixed + tail.len() as u32]);
-    let bounds = [r.between(-2, 8), r.between(-2, 8), r.between(0, 12), r.between(0, 12)];
-    words(&mut b, &bounds.map(|n| n as u32));
-    let place = [x, y, cx, cy].map(|n| n as u32);
-    let from = [sx, sy, scx, scy].map(|n| n as u32);
-    let one = 1.0f32.to_bits();
-    if kind == 0x51 {
-        words(&mut b, &place[..2]);
-        words(&mut b, &from);
-        words(&mut b, &four[..4]);
-        let rop = r.next();
-        words(&mut b, &[0, rop, place[2], place[3]]);
+    let source = if r.below(5) > 0 { Some(picture(r, bits, w, h)) } else { None };
+    let mask = if kind == MASKBLT {
+        let (mw, mh) = (r.between(1, 9), r.between(1, 9));
+        Some(picture(r, 1, mw, mh))
     } else {
-        words(&mut b, &place);
-        let operation = if kind == 0x72 { r.below(256) * 65_536 + r.below(2) * 16_777_216 } else { r.next() * 2 };
-        words(&mut b, &[operation, from[0], from[1], one, 0, 0, one, 0, 0, 0, 0]);
-        words(&mut b, &four[..4]);
-        if kind == 0x72 {
-            words(&mut b, &from[2..]);
-        } else {
-            let corner = [r.between(-20, 20), r.between(-20, 20)].map(|n| n as u32);
-            words(&mut b, &corner);
-            words(&mut b, &[0]);
-            words(&mut b, &four[4..]);
-        }
-    }
-    b.extend_from_slice(&tail);
-    b
+        None
+    };
+    let bounds = [r.between(-2, 8), r.between(-2, 8), r.between(0, 12), r.between(0, 12)];
+    let operation = match kind {
+        ALPHABLEND => operation::blend_field(r.below(256), r.below(2)),
+        MASKBLT => r.next() * 2,
+        _ => r.next(),
+    };
+    let mut made = Record::new(kind, [x, y, cx, cy], operation).bounded(bounds);
+    made.source_at = [sx, sy, scx, scy];
+    made.mask_corner = if kind == MASKBLT { [r.between(-20, 20), r.between(-20, 20)] } else { [0; 2] };
+    (made.source, made.mask) = (source, mask);
+    made.bytes()
 }
 
 /// A few bytes of the record spoiled.
@@ -160,7 +109,7 @@ fn lists_follow_the_pile() {
         let (width, height) = (1 + r.below(9), 1 + r.below(8));
         let start: Vec<u32> = (0..width * height).map(|_| r.next() * 2 + r.below(2)).collect();
         let records = r.below(160);
-        let mut journal: Vec<u8> = (0..records * 12).map(|_| r.next() as u8).collect();
+        let mut journal: Vec<u8> = (0..records as usize * RECORD).map(|_| r.next() as u8).collect();
         let mut sheet = start.clone();
         let mut used = 0u64;
         let mut pile = Pile::new(&start, records as u64, width, height);
@@ -225,7 +174,7 @@ fn any_record_ends() {
             }
         }
         let mut sheet = [0x8040_2010u32; 12];
-        let mut journal = [0u8; 13 * 12];
+        let mut journal = [0u8; 13 * RECORD];
         let mut used = 0;
         let clip = Clip { left: i32::MIN, top: i32::MIN, right: i32::MAX, bottom: i32::MAX };
         let answer = play(&mut sheet, 4, 3, &mut journal, &mut used, &rec, clip, 0x123456);
@@ -243,13 +192,13 @@ fn any_record_ends() {
 fn any_journal_ends() {
     let mut r = Random(3);
     for _ in 0..20_000 {
-        let records = r.below(7);
-        let mut journal: Vec<u8> = Vec::new();
-        for _ in 0..records {
+        let records = r.below(7) as usize;
+        let mut journal = vec![0; records * RECORD];
+        for k in 0..records {
             let (x, y) = (r.below(4), r.below(3));
             let first = if r.below(3) == 0 { 0xFFFF_FFFF } else { x };
             let old = r.next();
-            words(&mut journal, &[first, y, old]);
+            set_entry(&mut journal, k, (first, y, old));
         }
         let mut sheet = [0u32; 6];
         let mut used = r.below(8) as u64;
@@ -271,7 +220,7 @@ fn wide_counts() {
     let mut sheet = [0u32; 1];
     for count in [1u64 << 32, (1 << 32) + 1, u64::MAX] {
         let mut used = count;
-        assert_eq!(undo(&mut sheet, 1, 1, &[0; 12], &mut used).status, 2);
+        assert_eq!(undo(&mut sheet, 1, 1, &[0; RECORD], &mut used).status, 2);
         assert_eq!(used, count);
     }
 }
@@ -280,11 +229,11 @@ fn wide_counts() {
 /// pass 3, four more do not.
 #[test]
 fn largest_sizes() {
-    let mut journal = vec![0u8; 240_000_012];
+    let mut journal = vec![0u8; (MOST_RECORDS as usize + 1) * RECORD];
     let mut sheet = [0u32; 1];
     let mut used = 0;
     assert_eq!(undo(&mut sheet, 1, 1, &journal, &mut used).status, 2);
-    journal.truncate(240_000_000);
+    journal.truncate(MOST_RECORDS as usize * RECORD);
     assert_eq!(undo(&mut sheet, 1, 1, &journal, &mut used).status, 15);
     assert_eq!(status(&vec![0u8; 16_777_216]), 4);
     assert_eq!(status(&vec![0u8; 16_777_220]), 3);

@@ -1,7 +1,11 @@
 //! The two programs, run one after the other, and scripts with faults.
 
+use records::bytes::words;
+use records::{Record, Script, STRETCHDIBITS};
 use std::collections::BTreeMap;
 use std::process::{Command, Stdio};
+
+const JOURNAL: u32 = 3 * second::journal::RECORD as u32;
 
 fn script() -> Vec<u8> {
     let out = Command::new(env!("CARGO_BIN_EXE_make_script")).output().expect("runs");
@@ -15,20 +19,17 @@ fn run(bytes: &[u8]) -> String {
     String::from_utf8(out).expect("text")
 }
 
-fn words(list: &[u32]) -> Vec<u8> {
-    list.iter().flat_map(|w| w.to_le_bytes()).collect()
-}
-
-/// A head with a sheet of 2 by 1 and a journal of 36 bytes.
+/// A sheet of 2 by 1 and a journal of three records.
 fn head() -> Vec<u8> {
-    words(&[0x3143_524F, 0, 2, 1, 2, 0xFF00_0000, 0xFF00_00FF, 36, 0, 0])
+    Script::new(0, [2, 1], &[0xFF00_0000, 0xFF00_00FF], JOURNAL, 0, 0).bytes
 }
 
 /// Document 01's whole play as a call.
 fn whole_play() -> Vec<u8> {
-    let mut b = words(&[1, 0, 0, 2, 1, 0x112233, 0, 80]);
-    b.extend(words(&[0x51, 80, 0, 0, 1, 0, 0, 0, 0, 0, 0, 0, 0, 0, 0, 0, 0, 0x00F0_0021, 2, 1]));
-    b
+    let record = Record::new(STRETCHDIBITS, [0, 0, 2, 1], 0x00F0_0021).bounded([0, 0, 1, 0]);
+    let mut s = Script::default();
+    s.play([0, 0, 2, 1], 0x112233, 0, &record.bytes());
+    s.bytes
 }
 
 /// How many calls of each opcode a script has.
@@ -153,9 +154,9 @@ fn faults() {
     }
     // Arguments out of range, and bytes behind opcode 0.
     for call in [
-        &[4, 2, 1, 3, 36, 0][..],
-        &[4, 2, 1, 2, 37, 0],
-        &[6, 33, 0, 0],
+        &[4, 2, 1, 3, JOURNAL, 0][..],
+        &[4, 2, 1, 2, JOURNAL + 1, 0],
+        &[6, JOURNAL - 3, 0, 0],
         &[6, 0xFFFF_FFFE, 0, 0],
         &[3, 2, 0, 0],
         &[3, 0, 131_073, 0],
@@ -171,7 +172,7 @@ fn faults() {
     assert_eq!(run(&b), bad);
     // The largest of each is no fault.
     let mut b = head();
-    b.extend(words(&[6, 32, 7, 4, 9, 9, 2, 36, 5, u32::MAX, 3, 1, 131_072]));
+    b.extend(words(&[6, JOURNAL - 4, 7, 4, 9, 9, 2, JOURNAL, 5, u32::MAX, 3, 1, 131_072]));
     b.extend(vec![0; 131_072]);
     b.extend(words(&[0]));
     assert!(run(&b).starts_with("4 0 "));

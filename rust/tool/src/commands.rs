@@ -1,16 +1,16 @@
 //! The commands. Each gives the exit code: 0 all went well, 2 a record was refused; an error in words becomes 1.
 
 mod arguments;
+mod emf_files;
 mod info;
+mod output;
 mod play;
+mod results;
 mod undo;
 
 use std::ffi::OsString;
-use std::io::{self, ErrorKind, Write};
 
-const FINE: u8 = 0;
-const ERROR: u8 = 1;
-const REFUSED: u8 = 2;
+use output::{complain, Out, ERROR, FINE};
 
 const HELP: &str = "\
 lacrumont plays the bitmap records of EMF files onto a sheet (an orthophoto), keeps a journal of every old pixel,
@@ -33,7 +33,7 @@ Exit code: 0 all went well, 1 an error of files or use, 2 a record was refused.
 
 /// Runs the command these arguments name, and gives the exit code.
 pub fn run(arguments: Vec<OsString>) -> u8 {
-    let mut out = Out { failure: None };
+    let mut out = Out::default();
     let ended = dispatch(&arguments, &mut out).and_then(|code| out.end().map(|()| code));
     ended.unwrap_or_else(|words| {
         complain(&words);
@@ -59,37 +59,4 @@ fn dispatch(arguments: &[OsString], out: &mut Out) -> Result<u8, String> {
         }
         _ => Err(format!("there is no command {}; see lacrumont --help", first.to_string_lossy())),
     }
-}
-
-/// Standard output. The first failure is kept for the end: what was asked for is done all the same.
-struct Out {
-    failure: Option<io::Error>,
-}
-
-impl Out {
-    fn line(&mut self, line: &str) {
-        self.text(&format!("{line}\n"));
-    }
-
-    fn text(&mut self, text: &str) {
-        if self.failure.is_none() {
-            self.failure = io::stdout().write_all(text.as_bytes()).and_then(|()| io::stdout().flush()).err();
-        }
-    }
-
-    fn end(self) -> Result<(), String> {
-        match self.failure {
-            // Who closed the pipe has read enough.
-            Some(error) if error.kind() != ErrorKind::BrokenPipe => {
-                Err(format!("cannot write to standard output: {error}"))
-            }
-            _ => Ok(()),
-        }
-    }
-}
-
-/// A line on standard error.
-fn complain(words: &str) {
-    // A closed standard error leaves nobody to tell.
-    let _ = writeln!(io::stderr(), "lacrumont: {words}");
 }

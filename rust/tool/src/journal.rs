@@ -1,12 +1,15 @@
 //! The journal as a file, so that plays can be taken back later.
 //!
 //! All numbers are little-endian: mark (8 bytes), version (4), width (4), height (4), count in use (8), checksum of the
-//! surface as it is after the plays (4), checksum of the records (4), then the records in use, 12 bytes each.
+//! surface as it is after the plays (4), checksum of the records (4), then the records in use.
 
 use std::path::Path;
 
+use face::constants::{BAD_CLOSING, JOURNAL_RECORD, MOST_JOURNAL, NO_ROOM};
+use face::Clip;
+
 use crate::bytes::{u32_at, u64_at};
-use crate::library::{self, Clip, Surface, BAD_CLOSING, MOST_RECORDS, NO_ROOM, RECORD_BYTES};
+use crate::library::{self, Surface};
 use crate::sheet::Sheet;
 use crate::{crc, files, words};
 
@@ -49,7 +52,7 @@ impl Journal {
 
     /// Reads the file and tests that it belongs to the sheet.
     pub fn load(path: &Path, sheet: &Sheet) -> Result<Journal, Refusal> {
-        let bytes = files::read(path, (HEADER + MOST_RECORDS * RECORD_BYTES) as u64).map_err(Refusal::Foreign)?;
+        let bytes = files::read(path, (HEADER + MOST_JOURNAL * JOURNAL_RECORD) as u64).map_err(Refusal::Foreign)?;
         Journal::parse(bytes, sheet).map_err(|refusal| match refusal {
             Refusal::Foreign(words) => Refusal::Foreign(format!("{}: {words}", path.display())),
             Refusal::Unfit(words) => Refusal::Unfit(format!("{}: {words}", path.display())),
@@ -68,7 +71,7 @@ impl Journal {
         }
         let used = u64_at(&bytes, 20).ok_or_else(|| unfit("the journal is cut off"))?;
         let (sides, sheet_sum, records_sum) = ((header(12)?, header(16)?), header(28)?, header(32)?);
-        if used > MOST_RECORDS as u64 || (bytes.len() - HEADER) as u64 != used * RECORD_BYTES as u64 {
+        if used > MOST_JOURNAL as u64 || (bytes.len() - HEADER) as u64 != used * JOURNAL_RECORD as u64 {
             return Err(unfit("the journal's length is not what its count in use says"));
         }
         if crc::of(&bytes[HEADER..]) != records_sum {
@@ -95,7 +98,7 @@ impl Journal {
 
     /// The file's header, and the records in use behind it.
     pub fn parts(&self, sheet: &Sheet) -> (Vec<u8>, &[u8]) {
-        let records = &self.records[..self.used as usize * RECORD_BYTES];
+        let records = &self.records[..self.used as usize * JOURNAL_RECORD];
         let mut header = MARK.to_vec();
         header.extend(VERSION.to_le_bytes());
         header.extend(sheet.surface.width.to_le_bytes());
@@ -110,7 +113,7 @@ impl Journal {
     pub fn plays(&self) -> Option<u64> {
         let (mut left, mut plays) = (self.used, 0);
         while left > 0 {
-            let at = (left - 1) as usize * RECORD_BYTES;
+            let at = (left - 1) as usize * JOURNAL_RECORD;
             if u32_at(&self.records, at)? != CLOSING {
                 return None;
             }
@@ -124,9 +127,9 @@ impl Journal {
     pub fn play(&mut self, surface: &mut Surface, record: &[u8], clip: Clip, brush: u32) -> Result<u32, u32> {
         loop {
             match library::play(surface, &mut self.records, &mut self.used, record, clip, brush) {
-                Err(NO_ROOM) if self.records.len() < MOST_RECORDS * RECORD_BYTES => {
-                    let more = (self.records.len() / RECORD_BYTES * 2).clamp(FIRST_RECORDS, MOST_RECORDS);
-                    self.records.resize(more * RECORD_BYTES, 0);
+                Err(NO_ROOM) if self.records.len() < MOST_JOURNAL * JOURNAL_RECORD => {
+                    let more = (self.records.len() / JOURNAL_RECORD * 2).clamp(FIRST_RECORDS, MOST_JOURNAL);
+                    self.records.resize(more * JOURNAL_RECORD, 0);
                 }
                 answer => return answer,
             }
@@ -147,6 +150,8 @@ impl Journal {
 #[cfg(test)]
 mod tests {
     use super::*;
+    use face::constants::NOTHING;
+    use records::{operation, Record, STRETCHDIBITS};
 
     const WHOLE: Clip = Clip { left: 0, top: 0, right: 4, bottom: 2 };
 
@@ -155,11 +160,8 @@ mod tests {
     }
 
     /// The brush over a target from the corner on.
-    fn brush_record(width: u32, height: u32) -> Vec<u8> {
-        let mut fields = [0u32; 20];
-        fields[..6].copy_from_slice(&[0x51, 80, 0, 0, 4095, 4095]);
-        fields[17..].copy_from_slice(&[0x00F0_0021, width, height]);
-        fields.iter().flat_map(|field| field.to_le_bytes()).collect()
+    fn brush_record(width: i32, height: i32) -> Vec<u8> {
+        Record::new(STRETCHDIBITS, [0, 0, width, height], operation::rop(0xF0)).bytes()
     }
 
     fn played() -> (Sheet, Journal) {
@@ -178,15 +180,15 @@ mod tests {
     fn there_and_back() {
         let (mut after, journal) = played();
         let bytes = file(&after, &journal);
-        assert_eq!(bytes.len(), 36 + 12 * 12);
+        assert_eq!(bytes.len(), HEADER + 12 * JOURNAL_RECORD);
         let mut read = Journal::parse(bytes, &after).unwrap();
         assert_eq!((read.plays(), read.used), (Some(2), 12));
         assert_eq!(read.undo(&mut after.surface), Ok(2));
         assert_eq!(read.undo(&mut after.surface), Ok(8));
-        assert_eq!(read.undo(&mut after.surface), Err(library::NOTHING));
+        assert_eq!(read.undo(&mut after.surface), Err(NOTHING));
         assert_eq!(after.surface, sheet().surface);
         let empty = file(&after, &read);
-        assert_eq!(empty.len(), 36);
+        assert_eq!(empty.len(), HEADER);
         assert_eq!(Journal::parse(empty, &after).unwrap().plays(), Some(0));
     }
 
@@ -222,7 +224,8 @@ mod tests {
     fn records_that_are_no_plays() {
         let sheet = sheet();
         for numbers in [[0, 0, 1], [CLOSING, 1, 0x51], [CLOSING, CLOSING, 0x51]] {
-            let records: Vec<u8> = numbers.iter().flat_map(|number| number.to_le_bytes()).collect();
+            let mut records: Vec<u8> = numbers.iter().flat_map(|number| number.to_le_bytes()).collect();
+            records.resize(JOURNAL_RECORD, 0);
             let journal = Journal { records, used: 1 };
             assert_eq!(journal.plays(), None);
             let refusal = Journal::parse(file(&sheet, &journal), &sheet).unwrap_err();
@@ -233,17 +236,17 @@ mod tests {
     #[test]
     fn a_journal_grows_up_to_its_bound() {
         let mut sheet = sheet();
-        let mut full = Journal { records: vec![0; MOST_RECORDS * RECORD_BYTES], used: MOST_RECORDS as u64 - 8 };
+        let mut full = Journal { records: vec![0; MOST_JOURNAL * JOURNAL_RECORD], used: MOST_JOURNAL as u64 - 8 };
         assert_eq!(full.play(&mut sheet.surface, &brush_record(4, 2), WHOLE, 5), Err(NO_ROOM));
-        assert_eq!(full.used, MOST_RECORDS as u64 - 8);
+        assert_eq!(full.used, MOST_JOURNAL as u64 - 8);
         assert_eq!(full.play(&mut sheet.surface, &brush_record(4, 1), WHOLE, 5), Ok(4));
 
         let mut large = Surface { width: 400, height: 400, pixels: vec![0; 160_000] };
         let mut journal = Journal::new();
         let clip = Clip { left: 0, top: 0, right: 400, bottom: 400 };
         assert_eq!(journal.play(&mut large, &brush_record(400, 400), clip, 5), Ok(160_000));
-        assert_eq!(journal.records.len(), 4 * FIRST_RECORDS * RECORD_BYTES);
+        assert_eq!(journal.records.len(), 4 * FIRST_RECORDS * JOURNAL_RECORD);
         journal.forget();
-        assert_eq!(journal.undo(&mut large), Err(library::NOTHING));
+        assert_eq!(journal.undo(&mut large), Err(NOTHING));
     }
 }

@@ -1,18 +1,24 @@
 //! The parts of the `lacrumont` tool, by subject. They are a library so that the tests reach them.
+//!
+//! The modules stand in layers: each uses only those of the groups above its own.
 
-#![deny(unsafe_code)]
+#![forbid(unsafe_code)]
 
-pub mod bmp;
 pub mod bytes;
-pub mod commands;
 pub mod crc;
+pub mod library;
+pub mod progress;
+pub mod words;
+
 pub mod emf;
 pub mod files;
-pub mod journal;
-#[allow(unsafe_code)]
-pub mod library;
-pub mod png;
-pub mod progress;
 pub mod sheet;
-pub mod words;
 pub mod zlib;
+
+pub mod bmp;
+pub mod journal;
+pub mod png;
+
+pub mod sheet_files;
+
+pub mod commands;

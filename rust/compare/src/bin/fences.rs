@@ -2,10 +2,12 @@
 
 use compare::calls::{self, Case, Stage, Step};
 use compare::judge::{same_all, same_reading};
-use compare::library::{raw, NUMBERS};
+use compare::makers::largest;
 use compare::memory::{Fenced, Side};
-use compare::records::largest;
 use compare::{arguments, memory};
+use face::constants::{MOST_SIDE as SIDE, NUMBERS};
+use face::{raw, UNWRITTEN};
+use records::{ALPHABLEND, MASKBLT};
 use second::{Answer, Clip};
 use std::process::ExitCode;
 use std::time::Instant;
@@ -57,9 +59,9 @@ impl Done {
 
 /// The place of a record's type in `plays`; damaged types count as the last.
 fn kind(record: &[u8]) -> usize {
-    match record.first() {
-        Some(0x72) => 0,
-        Some(0x4E) => 1,
+    match record.first().map(|&byte| byte as u32) {
+        Some(ALPHABLEND) => 0,
+        Some(MASKBLT) => 1,
         _ => 2,
     }
 }
@@ -104,7 +106,7 @@ impl Bench {
     /// The library's play or undo with what is lent now; `play` is clip and brush. With `read_only` a write to surface
     /// or journal ends the program; a write to the record always does, one to the journal in every undo.
     fn call(&mut self, width: u32, height: u32, play: Option<(Clip, u32)>, read_only: bool) -> Answer {
-        self.pixels.lend(self.side, &0xA5C3_96E1u32.to_ne_bytes());
+        self.pixels.lend(self.side, &UNWRITTEN.to_ne_bytes());
         let at = |lent: &Fenced, read_only: bool| if read_only { lent.at_read_only() } else { lent.at() };
         let surface = at(&self.surface, read_only) as *mut u32;
         let surface_len = self.surface.len() / 4;
@@ -232,7 +234,6 @@ impl Bench {
 
     /// The largest sizes, each at its fences: one full play of each type and its undo, and the refusals beside them.
     fn largest(&mut self, seed: u64) -> Result<u64, String> {
-        const SIDE: u32 = 4_096;
         const PIXELS: u64 = SIDE as u64 * SIDE as u64;
         let all = Clip { left: 0, top: 0, right: SIDE as i32, bottom: SIDE as i32 };
         let before = self.done.calls;

@@ -1,8 +1,9 @@
 //! The largest sizes there are, played and undone by both players.
 
 use compare::judge::{same_all, same_reading};
-use compare::records::{largest, LONGEST};
+use compare::makers::largest;
 use compare::{arguments, calls, library, memory, random::Random};
+use face::constants::{JOURNAL_RECORD, MOST_RECORD, MOST_SIDE as SIDE};
 use second::{Answer, Clip};
 use std::process::ExitCode;
 use std::time::Instant;
@@ -20,7 +21,6 @@ player's, and 1 GB of memory.
   --seed S   other bytes in records and surface (1 if not said)
 ";
 
-const SIDE: u32 = 4_096;
 const PIXELS: u64 = SIDE as u64 * SIDE as u64;
 const ALL: Clip = Clip { left: i32::MIN, top: i32::MIN, right: i32::MAX, bottom: i32::MAX };
 
@@ -110,7 +110,7 @@ fn all(seed: u64) -> Result<(), String> {
 
     // From an empty journal; then there is no room for another, but for a smaller one, which is undone first.
     let record = largest::stretch(seed);
-    assert!(record.len() == LONGEST);
+    assert!(record.len() == MOST_RECORD);
     read(&record)?;
     both.play("0x51", &record, ALL, full)?;
     both.play("0x51 without room", &record, ALL, refused(14))?;
@@ -130,7 +130,7 @@ fn all(seed: u64) -> Result<(), String> {
 
     // The journal's last record is just enough, and one too few.
     let record = largest::blend(seed);
-    assert!(record.len() == LONGEST);
+    assert!(record.len() == MOST_RECORD);
     read(&record)?;
     both.count(most - PIXELS);
     both.play("0x72 with one record too few", &record, ALL, refused(14))?;
@@ -140,7 +140,7 @@ fn all(seed: u64) -> Result<(), String> {
     same_all("surface after the undo", &both.ours.surface, &start)?;
 
     let record = largest::mask_blit(seed);
-    assert!(record.len() == LONGEST);
+    assert!(record.len() == MOST_RECORD);
     read(&record)?;
     both.count(0);
     both.play("0x4E", &record, ALL, full)?;
@@ -149,7 +149,7 @@ fn all(seed: u64) -> Result<(), String> {
 
     // A journal of one record more than the most.
     for held in [&mut both.ours, &mut both.theirs] {
-        held.journal.resize(calls::LONGEST_JOURNAL + 12, 0);
+        held.journal.resize(calls::LONGEST_JOURNAL + JOURNAL_RECORD, 0);
     }
     both.play("0x4E, journal of 20,000,001 records", &record, ALL, refused(2))?;
     both.undo(refused(2))

@@ -3,7 +3,7 @@
 use std::ffi::{OsStr, OsString};
 use std::path::PathBuf;
 
-use crate::library::Clip;
+use face::Clip;
 
 /// What one command knows.
 pub struct Known {

@@ -1,13 +1,13 @@
 //! `lacrumont info`: what a file's bitmap records are, and whether they can be played.
 
 use std::ffi::OsString;
-use std::path::Path;
 
 use super::arguments::Known;
-use super::{complain, Out, FINE, REFUSED};
-use crate::emf::{self, Record};
+use super::emf_files;
+use super::output::{Out, FINE, REFUSED};
+use crate::emf::Record;
 use crate::library::{self, Which};
-use crate::{files, words};
+use crate::words;
 
 const KNOWN: Known = Known { command: "info", valued: &[], flags: &[] };
 
@@ -20,9 +20,6 @@ Size in bytes, Bounds (left, top, right, bottom), and the status its reading giv
 Exit code: 0 all can be played, 1 an error of files or use, 2 a record would be refused.
 ";
 
-/// Far more than a real EMF file has; it keeps a wrong file from filling the memory.
-pub const MOST_BYTES: u64 = 1 << 30;
-
 pub fn run(arguments: &[OsString], out: &mut Out) -> Result<u8, String> {
     let parsed = KNOWN.parse(arguments)?;
     if parsed.help {
@@ -32,22 +29,15 @@ pub fn run(arguments: &[OsString], out: &mut Out) -> Result<u8, String> {
     let [path] = &parsed.plain[..] else {
         return Err(KNOWN.wrong("info needs one file"));
     };
-    let bytes = files::read(path, MOST_BYTES)?;
+    let bytes = emf_files::read(path)?;
     out.line(&format!("{}: {} bytes", path.display(), words::count(bytes.len() as u64)));
-    let (mut listed, mut refused, mut others) = (0, 0, 0);
-    let mut walk = emf::walk(&bytes);
-    for step in walk.by_ref() {
-        let record = step.map_err(|damage| damaged(path, &damage))?;
-        if record.is_played() {
-            let (line, good) = describe(&record);
-            out.line(&line);
-            listed += 1;
-            refused += u64::from(!good);
-        } else if record.kind != emf::HEADER && record.kind != emf::END {
-            others += 1;
-        }
-    }
-    tell_rest(path, walk.left());
+    let (mut listed, mut refused) = (0, 0);
+    let others = emf_files::bitmap_records(path, &bytes, |record| {
+        let (line, good) = describe(&record);
+        out.line(&line);
+        listed += 1;
+        refused += u64::from(!good);
+    })?;
     let would = if refused == 0 { "all can be played".to_string() } else { format!("{refused} would be refused") };
     let would = if listed == 0 { "nothing to play".to_string() } else { would };
     out.line(&format!(
@@ -88,17 +78,4 @@ fn describe(record: &Record) -> (String, bool) {
         words::numbered(reading.err().unwrap_or(0))
     );
     (line, reading.is_ok())
-}
-
-/// Damage with the file's name.
-pub fn damaged(path: &Path, damage: &emf::Damage) -> String {
-    format!("{} is damaged: {damage}", path.display())
-}
-
-/// Bytes behind the EOF record do no harm, but whoever made the file may have meant them to be played.
-pub fn tell_rest(path: &Path, left: usize) {
-    if left > 0 {
-        let bytes = words::things(left as u64, "byte");
-        complain(&format!("{}: {bytes} behind the EOF record: not looked at", path.display()));
-    }
 }

@@ -3,16 +3,18 @@
 use std::ffi::OsString;
 use std::path::{Path, PathBuf};
 
+use face::constants::{MOST_JOURNAL, NO_ROOM};
+use face::Clip;
+
 use super::arguments::{self, Known};
-use super::info::{damaged, tell_rest, MOST_BYTES};
-use super::{complain, Out, FINE, REFUSED};
-use crate::emf;
-use crate::files::{self, Pending};
+use super::emf_files;
+use super::output::{complain, Out, FINE, REFUSED};
+use super::results::write_both;
+use crate::emf::Record;
 use crate::journal::{Journal, Refusal};
-use crate::library::{Clip, MOST_RECORDS, NO_ROOM};
 use crate::progress::Progress;
-use crate::sheet::{self, Sheet};
-use crate::words;
+use crate::sheet::Sheet;
+use crate::{files, sheet_files, words};
 
 const KNOWN: Known = Known { command: "play", valued: &["-o", "--clip", "--brush", "--journal"], flags: &["--force"] };
 
@@ -48,47 +50,29 @@ pub fn run(arguments: &[OsString], out: &mut Out) -> Result<u8, String> {
     let brush = parsed.text("--brush").map_or(Ok(0), |text| arguments::brush(&text))?;
     let clip = parsed.text("--clip").map(|text| arguments::clip(&text)).transpose()?;
     let force = parsed.has("--force");
-    sheet::format(&out_path)?;
+    sheet_files::format(&out_path)?;
     check_names(sheet_path, emf_paths, &out_path, journal_path.as_deref())?;
     files::check_free(&out_path, force)?;
 
     let mut progress = Progress::new();
-    let mut sheet = sheet::load(sheet_path, &mut progress)?;
+    let mut sheet = sheet_files::load(sheet_path, &mut progress)?;
     let (mut journal, continued) = match &journal_path {
         Some(path) => open_journal(path, &sheet, force)?,
         None => (Journal::new(), false),
     };
     // All files are read and walked before the first pixel is drawn, so that a damaged one changes nothing.
-    let files: Vec<Vec<u8>> = emf_paths.iter().map(|path| files::read(path, MOST_BYTES)).collect::<Result<_, _>>()?;
+    let files: Vec<Vec<u8>> = emf_paths.iter().map(|path| emf_files::read(path)).collect::<Result<_, _>>()?;
     let mut records = Vec::new();
     let mut others = 0;
     for (path, bytes) in emf_paths.iter().zip(&files) {
-        let mut walk = emf::walk(bytes);
-        for step in walk.by_ref() {
-            let record = step.map_err(|damage| damaged(path, &damage))?;
-            if record.is_played() {
-                records.push((path, record));
-            } else if record.kind != emf::HEADER && record.kind != emf::END {
-                others += 1;
-            }
-        }
-        tell_rest(path, walk.left());
+        others += emf_files::bitmap_records(path, bytes, |record| records.push((path.as_path(), record)))?;
     }
 
-    let surface = &mut sheet.surface;
+    let surface = &sheet.surface;
     let whole = Clip { left: 0, top: 0, right: surface.width as i32, bottom: surface.height as i32 };
     let mut refused = 0;
     for (done, (path, record)) in records.iter().enumerate() {
-        let name = words::kind(record.kind).unwrap_or("other");
-        let place = format!("{}: offset {}: {name} (0x{:02X})", path.display(), record.offset, record.kind);
-        match journal.play(surface, record.bytes, clip.unwrap_or(whole), brush) {
-            Ok(pixels) => out.line(&format!("{place}: {}", words::things(pixels.into(), "pixel"))),
-            Err(NO_ROOM) => return Err(full(&place)),
-            Err(status) => {
-                complain(&format!("{place}: refused and skipped, {}", words::numbered(status)));
-                refused += 1;
-            }
-        }
+        refused += u64::from(!play_one(&mut sheet, &mut journal, path, record, clip.unwrap_or(whole), brush, out)?);
         // These plays will not be taken back, so each may have the whole journal.
         if journal_path.is_none() {
             journal.forget();
@@ -105,6 +89,31 @@ pub fn run(arguments: &[OsString], out: &mut Out) -> Result<u8, String> {
         out.line(&format!("journal {} holds {plays}", path.display()));
     }
     Ok(if refused == 0 { FINE } else { REFUSED })
+}
+
+/// Plays the record and says so; false where it is refused.
+fn play_one(
+    sheet: &mut Sheet,
+    journal: &mut Journal,
+    path: &Path,
+    record: &Record,
+    clip: Clip,
+    brush: u32,
+    out: &mut Out,
+) -> Result<bool, String> {
+    let name = words::kind(record.kind).unwrap_or("other");
+    let place = format!("{}: offset {}: {name} (0x{:02X})", path.display(), record.offset, record.kind);
+    match journal.play(&mut sheet.surface, record.bytes, clip, brush) {
+        Ok(pixels) => {
+            out.line(&format!("{place}: {}", words::things(pixels.into(), "pixel")));
+            Ok(true)
+        }
+        Err(NO_ROOM) => Err(full(&place)),
+        Err(status) => {
+            complain(&format!("{place}: refused and skipped, {}", words::numbered(status)));
+            Ok(false)
+        }
+    }
 }
 
 /// No file may be written over another that is still needed; only the sheet itself may be OUT, under --force.
@@ -143,27 +152,6 @@ fn open_journal(path: &Path, sheet: &Sheet, force: bool) -> Result<(Journal, boo
 }
 
 fn full(place: &str) -> String {
-    let most = words::count(MOST_RECORDS as u64);
+    let most = words::count(MOST_JOURNAL as u64);
     format!("{place}: {}; it would need more than {most} records. Nothing was written", words::numbered(NO_ROOM))
-}
-
-/// Both files are written whole before either gets its name, so that a full disk changes neither.
-pub fn write_both(
-    sheet: &Sheet,
-    out_path: &Path,
-    over_out: bool,
-    journal: &Journal,
-    journal_path: Option<&Path>,
-    over_journal: bool,
-    progress: &mut Progress,
-) -> Result<(), String> {
-    let picture = Pending::write(out_path, &[&sheet::packed(sheet, out_path, progress)?], progress)?;
-    let Some(journal_path) = journal_path else {
-        return picture.put(over_out);
-    };
-    let (header, records) = journal.parts(sheet);
-    let journal = Pending::write(journal_path, &[&header, records], progress)?;
-    picture.put(over_out)?;
-    // OUT is there now, and only this journal can undo it.
-    journal.keep().put(over_journal)
 }

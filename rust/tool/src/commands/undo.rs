@@ -2,14 +2,14 @@
 
 use std::ffi::OsString;
 
+use face::constants::NOTHING;
+
 use super::arguments::Known;
-use super::play::write_both;
-use super::{Out, FINE};
-use crate::files;
+use super::output::{Out, FINE};
+use super::results::write_both;
 use crate::journal::Journal;
-use crate::library::NOTHING;
 use crate::progress::Progress;
-use crate::{sheet, words};
+use crate::{files, sheet_files, words};
 
 const KNOWN: Known = Known { command: "undo", valued: &["-o", "--journal", "--plays"], flags: &["--all", "--force"] };
 
@@ -46,7 +46,7 @@ pub fn run(arguments: &[OsString], out: &mut Out) -> Result<u8, String> {
         (None, true) => None,
         (None, false) => Some(1),
     };
-    sheet::format(&out_path)?;
+    sheet_files::format(&out_path)?;
     for (path, what) in [(sheet_path, "the sheet"), (&out_path, "OUT")] {
         if files::same(&journal_path, path) {
             return Err(format!("{} cannot be the journal and {what} at once", journal_path.display()));
@@ -55,7 +55,7 @@ pub fn run(arguments: &[OsString], out: &mut Out) -> Result<u8, String> {
     files::check_free(&out_path, force)?;
 
     let mut progress = Progress::new();
-    let mut sheet = sheet::load(sheet_path, &mut progress)?;
+    let mut sheet = sheet_files::load(sheet_path, &mut progress)?;
     let mut journal =
         Journal::load(&journal_path, &sheet).map_err(|refusal| format!("{}. Nothing was changed", refusal.words()))?;
     let held = journal.plays().unwrap_or(0);

@@ -6,7 +6,11 @@ use std::process::Command;
 
 use lacrumont_tool::library::Surface;
 use lacrumont_tool::progress::Progress;
-use lacrumont_tool::sheet::{self, Sheet};
+use lacrumont_tool::sheet::Sheet;
+use lacrumont_tool::sheet_files;
+use records::bytes::words;
+use records::operation::{blend_field, rop, rop4};
+use records::{Header, Picture, Record, ALPHABLEND, MASKBLT, STRETCHDIBITS};
 
 /// A folder of its own for one test, empty at first and removed at the end.
 pub struct Folder(PathBuf);
@@ -44,11 +48,11 @@ impl Folder {
     }
 
     pub fn put_sheet(&self, name: &str, sheet: &Sheet) {
-        self.put(name, &sheet::packed(sheet, Path::new(name), &mut Progress::quiet()).unwrap());
+        self.put(name, &sheet_files::packed(sheet, Path::new(name), &mut Progress::quiet()).unwrap());
     }
 
     pub fn get_sheet(&self, name: &str) -> Sheet {
-        sheet::load(&self.path(name), &mut Progress::quiet()).unwrap()
+        sheet_files::load(&self.path(name), &mut Progress::quiet()).unwrap()
     }
 
     /// Runs the tool inside the folder.
@@ -101,72 +105,40 @@ pub fn noisy_sheet(width: u32, height: u32, deep: bool) -> Sheet {
     Sheet { surface: Surface { width, height, pixels }, deep }
 }
 
-fn bytes(numbers: &[u32]) -> Vec<u8> {
-    numbers.iter().flat_map(|number| number.to_le_bytes()).collect()
-}
-
 /// A rectangle: left, top, width, height.
-pub type Area = [u32; 4];
+pub type Area = [i32; 4];
 
-/// Type, Size (set by `sized`) and Bounds over everything, then xDest and yDest.
-fn begin(kind: u32, area: Area) -> Vec<u32> {
-    vec![kind, 0, 0, 0, 4095, 4095, area[0], area[1]]
-}
-
-fn sized(mut record: Vec<u8>) -> Vec<u8> {
-    let size = (record.len() as u32).to_le_bytes();
-    record[4..8].copy_from_slice(&size);
-    record
-}
-
-const IDENTITY: [u32; 6] = [0x3F80_0000, 0, 0, 0x3F80_0000, 0, 0];
-
-fn header(width: u32, height: u32, bits: u32) -> Vec<u32> {
-    vec![40, width, height, 1 | bits << 16, 0, 0, 0, 0, 0, 0]
+/// A picture under a 40-byte header; its table is whole.
+fn picture(width: i32, height: i32, bits: u16, table: &[u32], pixels: &[u8]) -> Picture {
+    Picture { header: Header::new(40, width, height, bits), table: table.to_vec(), pixels: pixels.to_vec() }
 }
 
 /// 0x51 without a source: the brush over the area.
 pub fn brush_record(area: Area) -> Vec<u8> {
-    let mut fields = begin(0x51, area);
-    fields.extend([0, 0, 0, 0, 0, 0, 0, 0, 0, 0x00F0_0021, area[2], area[3]]);
-    sized(bytes(&fields))
+    Record::new(STRETCHDIBITS, area, rop(0xF0)).bytes()
 }
 
 /// 0x51: two pixels of 24 bits, blue-green and red-grey, stretched over the area under a raster operation.
 pub fn stretch_record(area: Area, operation: u32) -> Vec<u8> {
-    let mut fields = begin(0x51, area);
-    fields.extend([0, 0, 2, 1, 80, 40, 120, 8, 0, operation << 16, area[2], area[3]]);
-    fields.extend(header(2, 1, 24));
-    let mut record = bytes(&fields);
-    record.extend([200, 100, 0, 90, 90, 220, 0, 0]);
-    sized(record)
+    let source = picture(2, 1, 24, &[], &[200, 100, 0, 90, 90, 220, 0, 0]);
+    Record::new(STRETCHDIBITS, area, rop(operation)).from([0, 0, 2, 1], source).bytes()
 }
 
 /// 0x72, format 1: one premultiplied pixel stretched over the area.
 pub fn blend_record(area: Area, pixel: u32) -> Vec<u8> {
-    let mut fields = begin(0x72, area);
-    fields.extend([area[2], area[3], 0x01FF_0000, 0, 0]);
-    fields.extend(IDENTITY);
-    fields.extend([0, 0, 108, 40, 148, 4, 1, 1]);
-    fields.extend(header(1, 1, 32));
-    fields.push(pixel);
-    sized(bytes(&fields))
+    let source = picture(1, 1, 32, &[], &pixel.to_le_bytes());
+    Record::new(ALPHABLEND, area, blend_field(255, 1)).from([0, 0, 1, 1], source).bytes()
 }
 
 /// 0x4E: the brush where a mask of 8 by 2 squares is 1, what is there where it is 0.
 pub fn mask_record(area: Area) -> Vec<u8> {
-    let mut fields = begin(0x4E, area);
-    fields.extend([area[2], area[3], 0xF0AA_0000, 0, 0]);
-    fields.extend(IDENTITY);
-    fields.extend([0, 0, 0, 0, 0, 0, 0, 0, 0, 128, 48, 176, 8]);
-    fields.extend(header(8, 2, 1));
-    fields.extend([0, 0xFF_FFFF, 0x55, 0xAA]);
-    sized(bytes(&fields))
+    let mask = picture(8, 2, 1, &[0, 0xFF_FFFF], &words(&[0x55, 0xAA]));
+    Record::new(MASKBLT, area, rop4(0xAA, 0xF0)).masked([0, 0], mask).bytes()
 }
 
 /// A record of a type that is not played (EMR_SETMAPMODE).
 pub fn other_record() -> Vec<u8> {
-    bytes(&[17, 12, 1])
+    words(&[17, 12, 1])
 }
 
 /// A whole file: header, these records, EOF.
@@ -174,8 +146,8 @@ pub fn emf(records: &[Vec<u8>]) -> Vec<u8> {
     let length = 88 + records.iter().map(Vec::len).sum::<usize>() + 20;
     let mut fields = vec![1, 88, 0, 0, 4095, 4095, 0, 0, 4095, 4095, 0x464D_4520, 0x0001_0000];
     fields.extend([length as u32, records.len() as u32 + 2, 1, 0, 0, 0, 4096, 4096, 1000, 1000]);
-    let mut file = bytes(&fields);
+    let mut file = words(&fields);
     file.extend(records.concat());
-    file.extend(bytes(&[14, 20, 0, 16, 20]));
+    file.extend(words(&[14, 20, 0, 16, 20]));
     file
 }

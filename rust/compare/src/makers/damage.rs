@@ -1,11 +1,17 @@
 //! Damage: one fault or several, aimed at a status, at a field's limits, or at nothing.
 
-use super::{get, get_half, places, set, set_half, set_signed, sound, view_len};
-use super::{raster, sourceless};
-use super::{
-    Aim, Parts, Record, Wish, BLEND, FAR, LONGEST, MASK_BLIT, MASK_CORNER, MASK_FOUR, MASK_USAGE, STRETCH, TARGET,
-};
+use super::geometry::{Aim, FAR};
+use super::sound::{raster, sound, sourceless, Record, Wish};
 use crate::random::Random;
+use face::constants::MOST_RECORD;
+use records::bytes::{get, get_half, get_signed, set, set_half, set_signed};
+use records::dib::{part_length, rows_length, BI_BITFIELDS, V4};
+use records::places::{header, places, MASK_CORNER, MASK_FOUR, MASK_USAGE, SIZE, TARGET, TYPE};
+use records::{Parts, ALPHABLEND, MASKBLT, STRETCHDIBITS};
+
+/// Where the length of a part stands, counted from a picture's four fields.
+const HEADER_LEN: usize = 4;
+const BITS_LEN: usize = 12;
 
 /// A sound or a damaged record; `sound_percent` of a hundred are sound.
 pub fn any(r: &mut Random, aim: Aim, sound_percent: u64) -> Vec<u8> {
@@ -22,62 +28,72 @@ pub fn any(r: &mut Random, aim: Aim, sound_percent: u64) -> Vec<u8> {
             boundary(r, &mut record);
             record.bytes
         }
-        15..=16 => {
-            let wish = wish_for(r, 0);
-            let mut record = sound(r, aim, wish);
-            for _ in 0..2 + r.below(3) {
-                if r.percent(25) {
-                    boundary(r, &mut record);
-                } else {
-                    let status = 3 + r.below(11) as u32;
-                    spoil(r, &mut record, status);
-                }
-            }
-            record.bytes
-        }
+        15..=16 => several(r, aim),
         17..=18 => crossed(r, aim),
-        19 => {
-            // Single bytes.
-            let mut record = sound(r, aim, Wish::default());
-            for _ in 0..1 + r.below(4) {
-                let at = r.below(record.bytes.len() as u64) as usize;
-                record.bytes[at] = if r.percent(50) { r.pick(&[0, 1, 127, 128, 255]) } else { r.byte() };
-            }
-            record.bytes
-        }
-        20 => {
-            // Cut off or longer, with or without Size following.
-            let mut record = sound(r, aim, Wish::default());
-            let length = if r.percent(80) {
-                r.below(record.bytes.len() as u64 + 1) as usize
-            } else {
-                record.bytes.len() + r.below(13) as usize
-            };
-            let fill = r.byte();
-            record.bytes.resize(length, fill);
-            if r.percent(70) {
-                if r.percent(80) {
-                    record.bytes.truncate(length / 4 * 4);
-                }
-                let size = record.bytes.len() as u32;
-                set(&mut record.bytes, 4, size);
-            }
-            record.bytes
-        }
-        _ => {
-            let length = if r.percent(10) { r.below(12) } else { r.below(400) } as usize;
-            let mut bytes = r.bytes(length);
-            if r.percent(80) {
-                set(&mut bytes, 0, r.pick(&[BLEND, MASK_BLIT, STRETCH]));
-            }
-            if r.percent(80) {
-                bytes.truncate(length / 4 * 4);
-                let size = bytes.len() as u32;
-                set(&mut bytes, 4, size);
-            }
-            bytes
+        19 => single_bytes(r, aim),
+        20 => other_length(r, aim),
+        _ => random_bytes(r),
+    }
+}
+
+/// Several faults of any status.
+fn several(r: &mut Random, aim: Aim) -> Vec<u8> {
+    let wish = wish_for(r, 0);
+    let mut record = sound(r, aim, wish);
+    for _ in 0..2 + r.below(3) {
+        if r.percent(25) {
+            boundary(r, &mut record);
+        } else {
+            let status = 3 + r.below(11) as u32;
+            spoil(r, &mut record, status);
         }
     }
+    record.bytes
+}
+
+fn single_bytes(r: &mut Random, aim: Aim) -> Vec<u8> {
+    let mut bytes = sound(r, aim, Wish::default()).bytes;
+    for _ in 0..1 + r.below(4) {
+        let at = r.below(bytes.len() as u64) as usize;
+        bytes[at] = if r.percent(50) { r.pick(&[0, 1, 127, 128, 255]) } else { r.byte() };
+    }
+    bytes
+}
+
+/// Cut off or longer, with or without Size following.
+fn other_length(r: &mut Random, aim: Aim) -> Vec<u8> {
+    let mut bytes = sound(r, aim, Wish::default()).bytes;
+    let length =
+        if r.percent(80) { r.below(bytes.len() as u64 + 1) as usize } else { bytes.len() + r.below(13) as usize };
+    let fill = r.byte();
+    bytes.resize(length, fill);
+    if r.percent(70) {
+        if r.percent(80) {
+            bytes.truncate(length / 4 * 4);
+        }
+        set_size(&mut bytes);
+    }
+    bytes
+}
+
+/// Bytes without an order, mostly with a type and a Size that pass.
+fn random_bytes(r: &mut Random) -> Vec<u8> {
+    let length = if r.percent(10) { r.below(12) } else { r.below(400) } as usize;
+    let mut bytes = r.bytes(length);
+    if r.percent(80) {
+        set(&mut bytes, TYPE, r.pick(&[ALPHABLEND, MASKBLT, STRETCHDIBITS]));
+    }
+    if r.percent(80) {
+        bytes.truncate(length / 4 * 4);
+        set_size(&mut bytes);
+    }
+    bytes
+}
+
+/// Size follows the length.
+fn set_size(bytes: &mut [u8]) {
+    let size = bytes.len() as u32;
+    set(bytes, SIZE, size);
 }
 
 /// What a record needs so that damage at this status bites; 0 for any status.
@@ -88,11 +104,11 @@ fn wish_for(r: &mut Random, status: u32) -> Wish {
             wish.bitfields = true;
         }
         11 => {
-            wish.kind = Some(r.pick(&[BLEND, BLEND, MASK_BLIT, STRETCH]));
+            wish.kind = Some(r.pick(&[ALPHABLEND, ALPHABLEND, MASKBLT, STRETCHDIBITS]));
             wish.format_1 = r.percent(50);
         }
         13 => {
-            wish.kind = Some(MASK_BLIT);
+            wish.kind = Some(MASKBLT);
             if r.percent(50) {
                 wish.no_mask = true;
             } else {
@@ -111,11 +127,11 @@ fn wish_for(r: &mut Random, status: u32) -> Wish {
 }
 
 /// A record with one fault that mostly gives this status (3 to 13), or comes very near it.
-pub fn aimed(r: &mut Random, aim: Aim, status: u32) -> Vec<u8> {
+fn aimed(r: &mut Random, aim: Aim, status: u32) -> Vec<u8> {
     let wish = wish_for(r, status);
     let mut record = sound(r, aim, wish);
     // The wish alone brings 13, and half of what 11 is about.
-    if !(status == 13 || (status == 11 && wish.format_1 && record.kind == BLEND)) {
+    if !(status == 13 || (status == 11 && wish.format_1 && record.kind == ALPHABLEND)) {
         spoil(r, &mut record, status);
     }
     record.bytes
@@ -124,7 +140,7 @@ pub fn aimed(r: &mut Random, aim: Aim, status: u32) -> Vec<u8> {
 /// Source and mask with a fault each: the lower number must win, whichever picture has it.
 fn crossed(r: &mut Random, aim: Aim) -> Vec<u8> {
     let mask_depth = Some(r.pick(&[1, 8, 16, 16, 32, 32]));
-    let wish = Wish { kind: Some(MASK_BLIT), bitfields: true, mask_depth, ..Wish::default() };
+    let wish = Wish { kind: Some(MASKBLT), bitfields: true, mask_depth, ..Wish::default() };
     let mut record = sound(r, aim, wish);
     let (source, mask) = (record.source, record.mask);
     (record.source, record.mask) = (source, None);
@@ -147,7 +163,7 @@ fn present(r: &mut Random, record: &Record) -> Option<(Parts, usize)> {
 }
 
 /// One fault of the kind that this status is about.
-pub fn spoil(r: &mut Random, record: &mut Record, status: u32) {
+fn spoil(r: &mut Random, record: &mut Record, status: u32) {
     match status {
         3 => record.bytes.truncate(r.below(8) as usize),
         4 => {
@@ -156,10 +172,10 @@ pub fn spoil(r: &mut Random, record: &mut Record, status: u32) {
             let kind = match r.below(10) {
                 0 => r.word(),
                 // Another type's places over this one's bytes.
-                1..=2 => r.pick(&[BLEND, MASK_BLIT, STRETCH]),
+                1..=2 => r.pick(&[ALPHABLEND, MASKBLT, STRETCHDIBITS]),
                 _ => r.pick_or(&OTHERS, |_| record.kind + 256),
             };
-            set(&mut record.bytes, 0, kind);
+            set(&mut record.bytes, TYPE, kind);
         }
         5 => spoil_size(r, record),
         6 => spoil_part(r, record),
@@ -170,7 +186,7 @@ pub fn spoil(r: &mut Random, record: &mut Record, status: u32) {
         11 => spoil_operation(r, record),
         12 => spoil_geometry(r, record),
         _ => {
-            if record.kind == MASK_BLIT {
+            if record.kind == MASKBLT {
                 for k in 0..4 {
                     set(&mut record.bytes, MASK_FOUR + 4 * k, 0);
                 }
@@ -187,11 +203,11 @@ fn spoil_size(r: &mut Random, record: &mut Record) {
         0 => {
             let by = r.pick(&[1, 2, 3, 4, 8, 12, 256, 65_536, 1 << 24, 1 << 31]);
             let size = if r.percent(50) { (length as u32).wrapping_add(by) } else { (length as u32).wrapping_sub(by) };
-            set(&mut record.bytes, 4, size);
+            set(&mut record.bytes, SIZE, size);
         }
         1 => {
-            let size = r.pick(&[0, 4, 8, fixed as u32, fixed as u32 - 4, u32::MAX, 1 << 31, LONGEST as u32]);
-            set(&mut record.bytes, 4, size);
+            let size = r.pick(&[0, 4, 8, fixed as u32, fixed as u32 - 4, u32::MAX, 1 << 31, MOST_RECORD as u32]);
+            set(&mut record.bytes, SIZE, size);
         }
         // The length alone.
         2 => {
@@ -204,13 +220,13 @@ fn spoil_size(r: &mut Random, record: &mut Record) {
         3 => {
             let by = r.below(4) as usize;
             record.bytes.resize(length + by, 0);
-            set(&mut record.bytes, 4, (length + by) as u32);
+            set(&mut record.bytes, SIZE, (length + by) as u32);
         }
         // Both, around the fixed part's end.
         _ => {
             let new = r.pick(&[8, 12, fixed - 8, fixed - 4, fixed - 3, fixed - 1, fixed]);
             record.bytes.resize(new, 0);
-            set(&mut record.bytes, 4, new as u32);
+            set(&mut record.bytes, SIZE, new as u32);
         }
     }
 }
@@ -220,7 +236,7 @@ fn spoil_part(r: &mut Random, record: &mut Record) {
     let length = record.bytes.len() as u32;
     let Some((_, four)) = present(r, record) else {
         // An absent picture becomes present by one field.
-        let four = if record.kind == MASK_BLIT && r.percent(50) { MASK_FOUR } else { places(record.kind).four };
+        let four = if record.kind == MASKBLT && r.percent(50) { MASK_FOUR } else { places(record.kind).four };
         let n = r.pick(&[1, 40, fixed, length, u32::MAX]);
         set(&mut record.bytes, four + 4 * r.below(4) as usize, n);
         return;
@@ -274,7 +290,7 @@ fn spoil_transform(r: &mut Random, record: &mut Record) {
         set(&mut record.bytes, transform + 4 * r.below(6) as usize, n);
         return;
     }
-    let usage = if record.kind == MASK_BLIT && r.percent(50) { MASK_USAGE } else { at.usage };
+    let usage = if record.kind == MASKBLT && r.percent(50) { MASK_USAGE } else { at.usage };
     let n = r.pick_or(&[1, 2, 3, 0x100, 0x1_0000, 0x100_0000, 1 << 31, u32::MAX], Random::word);
     set(&mut record.bytes, usage, n);
 }
@@ -283,58 +299,56 @@ fn spoil_header(r: &mut Random, record: &mut Record) {
     let Some((parts, four)) = present(r, record) else { return };
     let at = parts.header_at;
     let bytes = &mut record.bytes;
-    let depth = get_half(bytes, at + 14);
+    let depth = get_half(bytes, at + header::BITS);
     match r.below(10) {
         0 => {
             let n = r.pick(&[0, 1, 12, 39, 40, 41, 52, 56, 64, 107, 108, 109, 124, 0x1_0028, 0x8000_0028, u32::MAX]);
-            set(bytes, at, n);
+            set(bytes, at + header::SIZE, n);
         }
         1 => {
             let n = r.pick(&[0, -1, -5, 16_384, 16_385, -16_384, 65_537, i32::MIN, i32::MAX]);
-            set(bytes, at + 4, n as u32);
+            set(bytes, at + header::WIDTH, n as u32);
         }
         2 => {
             let n = r.pick(&[0, 16_384, 16_385, -16_384, -16_385, 65_537, i32::MIN, i32::MIN + 1, i32::MAX]);
-            set(bytes, at + 8, n as u32);
+            set(bytes, at + header::HEIGHT, n as u32);
         }
-        3 => set_half(bytes, at + 12, r.pick(&[0, 2, 0x100, 0x101, 0x8001, 0xFFFF])),
+        3 => set_half(bytes, at + header::PLANES, r.pick(&[0, 2, 0x100, 0x101, 0x8001, 0xFFFF])),
         4 => {
             let known = [0, 2, 3, 5, 7, 9, 12, 15, 17, 23, 25, 31, 33, 64, 0x101, 0x120, 0x2000, 0x8001, 0xFFFF];
             let n = if r.percent(70) { r.pick(&known) } else { r.pick(&[1, 4, 8, 16, 24, 32]) };
-            set_half(bytes, at + 14, n);
+            set_half(bytes, at + header::BITS, n);
         }
         5 => {
             let n = r.pick(&[0, 1, 2, 3, 4, 5, 6, 0x100, 0x300, 0x03000000, 0x80000000, 0x80000003, u32::MAX]);
-            set(bytes, at + 16, n);
+            set(bytes, at + header::COMPRESSION, n);
         }
         6 => {
             let full = if depth <= 8 { 1u32 << depth } else { 256 };
             // The last two are small numbers once multiplied by 4 in 32 bits.
             let known =
                 [full, full + 1, full - 1, 255, 256, 257, 65_536, 65_537, 1 << 31, u32::MAX, 0x4000_0000, 0x4000_0002];
-            set(bytes, at + 32, r.pick(&known));
+            set(bytes, at + header::USED, r.pick(&known));
         }
         // The part too short: by one, or for the header, the masks, or nearly nothing.
         7 => {
-            let size = get(bytes, at) as usize;
-            let behind = if size == 40 && get(bytes, at + 16) == 3 { 12 } else { 0 };
-            let used = get(bytes, at + 32) as usize;
-            let entries = if depth <= 8 && used == 0 { 1 << depth } else { used.min(256) };
-            let needed = size + behind + 4 * entries;
+            let size = get(bytes, at + header::SIZE);
+            let bitfields = get(bytes, at + header::COMPRESSION) == BI_BITFIELDS;
+            let needed = part_length(size, bitfields, depth, get(bytes, at + header::USED).min(256));
             let n = if r.percent(50) { needed.saturating_sub(r.pick(&[1, 2, 4])) } else { needed };
-            set(bytes, four + 4, n as u32);
+            set(bytes, four + HEADER_LEN, n as u32);
         }
         8 => {
             let n = r.pick(&[0, 1, 3, 4, 12, 16, 36, 39, 40, 51, 52, 55, 56, 107, 108]);
-            set(bytes, four + 4, n);
+            set(bytes, four + HEADER_LEN, n);
         }
         // Around 256 colours in a part that is long enough for more.
         _ => {
             let length = bytes.len() + 1_200;
             bytes.resize(length, 0);
-            set(bytes, 4, length as u32);
-            set(bytes, four + 4, (length - at) as u32);
-            set(bytes, at + 32, r.pick(&[2, 3, 16, 17, 255, 256, 257, 258, 270]));
+            set(bytes, SIZE, length as u32);
+            set(bytes, four + HEADER_LEN, (length - at) as u32);
+            set(bytes, at + header::USED, r.pick(&[2, 3, 16, 17, 255, 256, 257, 258, 270]));
         }
     }
 }
@@ -343,22 +357,22 @@ fn spoil_masks(r: &mut Random, record: &mut Record) {
     let Some((parts, _)) = present(r, record) else { return };
     let at = parts.header_at;
     let bytes = &mut record.bytes;
-    if get(bytes, at + 16) != 3 {
+    if get(bytes, at + header::COMPRESSION) != BI_BITFIELDS {
         // Any header of 108 bytes can become one with masks.
-        set_half(bytes, at + 14, r.pick(&[16, 32]));
-        set(bytes, at + 16, 3);
-        let width = get(bytes, at + 4);
+        set_half(bytes, at + header::BITS, r.pick(&[16, 32]));
+        set(bytes, at + header::COMPRESSION, BI_BITFIELDS);
+        let width = get(bytes, at + header::WIDTH);
         if r.percent(50) && width < 40 {
-            set(bytes, at + 40, 0x1F);
-            set(bytes, at + 44, 0x3E0);
-            set(bytes, at + 48, 0x7C00);
-            set(bytes, at + 52, 0);
+            set(bytes, at + header::MASKS, 0x1F);
+            set(bytes, at + header::MASKS + 4, 0x3E0);
+            set(bytes, at + header::MASKS + 8, 0x7C00);
+            set(bytes, at + header::MASKS + 12, 0);
         }
     }
-    let v4 = get(bytes, at) == 108;
+    let v4 = get(bytes, at + header::SIZE) == V4;
     let channel = r.below(if v4 { 4 } else { 3 }) as usize;
     let other = r.below(3) as usize;
-    let place = at + 40 + 4 * channel;
+    let place = at + header::MASKS + 4 * channel;
     let now = get(bytes, place);
     let n = match r.below(10) {
         0 => 0,
@@ -367,7 +381,7 @@ fn spoil_masks(r: &mut Random, record: &mut Record) {
         // One more at either end.
         4 => now | now << 1,
         5 => now | now >> 1,
-        6 => get(bytes, at + 40 + 4 * other),
+        6 => get(bytes, at + header::MASKS + 4 * other),
         // 8 and 9 ones, at any place.
         7 => r.pick(&[0xFF, 0x1FF]) << r.below(24),
         // Around the end of 16 bits.
@@ -381,21 +395,21 @@ fn spoil_bits(r: &mut Random, record: &mut Record) {
     let Some((parts, four)) = present(r, record) else { return };
     let at = parts.header_at;
     let bytes = &mut record.bytes;
-    let width = get(bytes, at + 4) as i32 as i64;
-    let height = get(bytes, at + 8) as i32 as i64;
-    let depth = get_half(bytes, at + 14);
+    let width = get_signed(bytes, at + header::WIDTH);
+    let height = get_signed(bytes, at + header::HEIGHT);
+    let depth = get_half(bytes, at + header::BITS);
     if !(1..=16_384).contains(&width) || !(1..=16_384).contains(&height.abs()) || depth > 32 {
         return;
     }
-    let needed = view_len(width, height.abs(), depth) as u32;
+    let needed = rows_length(width, height.abs(), depth) as u32;
     match r.below(8) {
-        0..=2 => set(bytes, four + 12, needed.saturating_sub(r.pick(&[1, 2, 3, 4]))),
-        3 => set(bytes, four + 12, r.below(needed as u64) as u32),
-        4 => set(bytes, four + 12, 0),
+        0..=2 => set(bytes, four + BITS_LEN, needed.saturating_sub(r.pick(&[1, 2, 3, 4]))),
+        3 => set(bytes, four + BITS_LEN, r.below(needed as u64) as u32),
+        4 => set(bytes, four + BITS_LEN, 0),
         // Just enough.
-        5 => set(bytes, four + 12, needed),
-        6 => set_signed(bytes, at + 8, height + height.signum() * r.between(1, 3)),
-        _ => set_signed(bytes, at + 4, width + r.between(1, 40)),
+        5 => set(bytes, four + BITS_LEN, needed),
+        6 => set_signed(bytes, at + header::HEIGHT, height + height.signum() * r.between(1, 3)),
+        _ => set_signed(bytes, at + header::WIDTH, width + r.between(1, 40)),
     }
 }
 
@@ -410,7 +424,7 @@ fn spoil_operation(r: &mut Random, record: &mut Record) {
             set(bytes, at.four + 4 * k, 0);
         }
     };
-    if record.kind == BLEND {
+    if record.kind == ALPHABLEND {
         match r.below(5) {
             0 | 1 => bytes[at.operation] = r.pick_or(&[1, 2, 0x80, 0xFF], Random::byte),
             2 | 3 => bytes[at.operation + 3] = r.pick_or(&[2, 3, 0x80, 0x81, 0xFE, 0xFF, 1], Random::byte),
@@ -423,7 +437,7 @@ fn spoil_operation(r: &mut Random, record: &mut Record) {
     let first = at.operation + 2;
     match r.below(4) {
         0 => bytes[first] = 0xCC,
-        1 if record.kind == MASK_BLIT => {
+        1 if record.kind == MASKBLT => {
             bytes[first] = sourceless(r);
             bytes[first + 1] = raster(r);
         }
@@ -444,7 +458,7 @@ fn spoil_geometry(r: &mut Random, record: &mut Record) {
         }
         2 => set_signed(bytes, TARGET[axis], r.pick(&far)),
         3 => set_signed(bytes, at.corner[axis], r.pick(&far)),
-        4 if record.kind == MASK_BLIT => set_signed(bytes, MASK_CORNER[axis], r.pick(&far)),
+        4 if record.kind == MASKBLT => set_signed(bytes, MASK_CORNER[axis], r.pick(&far)),
         5 => {
             let place = at.source_extent.unwrap_or(at.extent)[axis];
             let n = r.pick(&[0, -1, 16_384, 16_385, -16_384, -16_385, i32::MIN as i64, i32::MAX as i64]);
@@ -458,9 +472,9 @@ fn spoil_geometry(r: &mut Random, record: &mut Record) {
         }
         // The rectangle just out of the picture, or just in it.
         _ => {
-            let corner = get(bytes, at.corner[axis]) as i32 as i64;
-            let extent = get(bytes, at.source_extent.unwrap_or(at.extent)[axis]) as i32 as i64;
-            let size = record.source.map_or(1, |p| (get(bytes, p.header_at + 4 + 4 * axis) as i32 as i64).abs());
+            let corner = get_signed(bytes, at.corner[axis]);
+            let extent = get_signed(bytes, at.source_extent.unwrap_or(at.extent)[axis]);
+            let size = record.source.map_or(1, |p| get_signed(bytes, p.header_at + header::WIDTH + 4 * axis).abs());
             let (low, high) = if extent < 0 { (-extent, size) } else { (0, size - extent) };
             let n = r.pick(&[low - 1, low, high, high + 1, corner + 1, corner - 1, -1]);
             set_signed(bytes, at.corner[axis], n);
@@ -475,12 +489,12 @@ fn boundary(r: &mut Random, record: &mut Record) {
         Some((parts, _)) if r.percent(50) => match r.below(16) {
             14 => {
                 let n = r.pick(&[0, 1, 2, 0x7FFF, 0x8000, 0xFFFF, 0x101]);
-                set_half(&mut record.bytes, parts.header_at + 12, n);
+                set_half(&mut record.bytes, parts.header_at + header::PLANES, n);
                 return;
             }
             15 => {
                 let n = r.pick(&[0, 1, 2, 4, 8, 16, 24, 32, 0x8000, 0xFFFF]);
-                set_half(&mut record.bytes, parts.header_at + 14, n);
+                set_half(&mut record.bytes, parts.header_at + header::BITS, n);
                 return;
             }
             k => parts.header_at + 4 * k as usize,
