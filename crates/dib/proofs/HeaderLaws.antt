@@ -7,8 +7,8 @@ use native.Mathlib.Nat.{mul-le-mul}
 use lib.Pow.{pow-mono}
 use lib.Dec.{eqb, ltb, leb, lit≤}
 use borrow.Author.Tests.{lt-ltb, le-ltb, ltb-true, ltb-false, leb-true, not-false}
-use Rattle.pixel.specs.Place.{isDepth, rowLength}
-use Rattle.pixel.proofs.PlaceLaws.{on-depth}
+use Rattle.pixel.specs.Position.{isDepth, rowLength}
+use Rattle.pixel.proofs.PositionLaws.{on-depth}
 use Rattle.words.proofs.ChoiceLaws.{or-none, cond-upto}
 use Rattle.dib.specs.declared.Header.{Header}
 use Rattle.dib.specs.Header.{rows as rowsOf, entries}

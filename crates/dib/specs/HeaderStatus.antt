@@ -5,7 +5,7 @@ use lib.Dec.{eqb, ltb}
 use lib.Bits.{bitAnd}
 use Rattle.words.specs.Status.{given}
 use Rattle.pixel.specs.Masks.{isChannel}
-use Rattle.pixel.specs.Place.{isDepth, rowLength}
+use Rattle.pixel.specs.Position.{isDepth, rowLength}
 use Rattle.dib.specs.declared.Masks.{Masks}
 use Rattle.dib.specs.declared.Header.{Header}
 use Rattle.dib.specs.Header.{hasMasks, rows, tableStart, entries}

@@ -120,7 +120,7 @@ pub fn bits_needed(h: Header) -> u64
     requires { ⌜ badFields h ≡ false ⌝ }
     ensures { λ r. ⌜ r ≡ bitsNeeded h ⌝ }
 {
-    pixel::place::row_length(h.width, h.bits) * words::magnitude(h.height) as u64
+    pixel::position::row_length(h.width, h.bits) * words::magnitude(h.height) as u64
 }
 
 // The first of 8, 9 and 10 that applies to a header whose part has `len` bytes and a bits part of `bits` bytes, or 0.

@@ -1,7 +1,7 @@
 // The tests of statuses 8 and 9, each on the numbers it is about.
 ghost use mathlib.Core.Path.{_≡_};
 ghost use Prim.Native.Nat.{_^_, _≤_, min};
-ghost use Rattle.pixel.specs.Place.{isDepth};
+ghost use Rattle.pixel.specs.Position.{isDepth};
 ghost use Rattle.dib.specs.HeaderStatus.{badSize, badCompression, badExtent, badColours, overlap as overlapOf, badChannels, badOverlaps};
 use crate::Masks;
 

@@ -10,8 +10,8 @@ use lib.Seq.{sets, getD-take}
 use lib.IntN.{pos, _+ℤ_}
 use Rattle.words.specs.Bytes.{magnitude32, signed32}
 use Rattle.words.proofs.ChoiceLaws.{cond-false}
-use Rattle.pixel.specs.Place.{maskPixel}
-use Rattle.pixel.proofs.PlaceLaws.{remainder-lt}
+use Rattle.pixel.specs.Position.{maskPixel}
+use Rattle.pixel.proofs.PositionLaws.{remainder-lt}
 use Rattle.dib.specs.Header.{rows}
 use Rattle.dib.proofs.HeaderLaws.{sound}
 use Rattle.judge.specs.declared.Record.{Record}
@@ -22,8 +22,8 @@ use Rattle.journal.specs.Drawing.{Paint, drawn}
 use Rattle.journal.specs.Records.{stride, Entry, bytesOf, saved}
 use Rattle.journal.proofs.RowLaws.{Rows, rows-turn}
 use Rattle.journal.proofs.AlikeLaws.{Alike, drawn-alike, saved-alike}
-use Rattle.paint.specs.declared.Rule.{Rule}
-use Rattle.paint.specs.Paints.{paintedBy, rowPaint, Painted}
+use Rattle.composite.specs.declared.Rule.{Rule}
+use Rattle.composite.specs.Paints.{paintedBy, rowPaint, Painted}
 use Rattle.meaning.specs.Sampling.{sourceColumn, sourceShown, sourcePixel, maskShown, maskBit}
 use Rattle.meaning.specs.Meaning.{ruleOf, meaningIn, paintOn}
 use Rattle.meaning.specs.Rows.{InPicture, SourceFilled, MaskFilled}

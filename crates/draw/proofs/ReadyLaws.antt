@@ -12,7 +12,7 @@ use Rattle.judge.specs.declared.Record.{Record}
 use Rattle.judge.specs.Good.{Good}
 use Rattle.region.specs.declared.Target.{Target}
 use Rattle.region.specs.declared.Rectangle.{Rectangle}
-use Rattle.region.specs.Target.{Place, block, placesIn, targetOf}
+use Rattle.region.specs.Target.{Point, block, pointsIn, targetOf}
 use Rattle.region.proofs.TargetLaws.{On, inside, Numbered, numbered, block-none}
 use Rattle.journal.specs.Drawing.{Paint, drawn}
 use Rattle.journal.specs.Records.{stride, bytesOf, saved}
@@ -21,16 +21,16 @@ use Rattle.draw.specs.Ready.{Ready, SourceColumns, MaskColumns, Mapped}
 
 -- a target without columns draws nothing
 module _ (w : ℕ) (f : Paint) (t : Target) (e : t .columns .count ≡ 0) (s : List ℕ) where
-  no-places : placesIn t ≡ []
-  no-places = ap (λ (n : ℕ). block (t .columns .at) n (t .rows .at) (t .rows .count)) e ∙ block-none (t .columns .at) (t .rows .at) (t .rows .count)
+  no-points : pointsIn t ≡ []
+  no-points = ap (λ (n : ℕ). block (t .columns .at) n (t .rows .at) (t .rows .count)) e ∙ block-none (t .columns .at) (t .rows .at) (t .rows .count)
 
-  pub none-drawn : s ≡ drawn w f (placesIn t) s
+  pub none-drawn : s ≡ drawn w f (pointsIn t) s
   unfolding drawn
-  none-drawn = ap (λ (ps : List Place). drawn w f ps s) (sym no-places)
+  none-drawn = ap (λ (ps : List Point). drawn w f ps s) (sym no-points)
 
-  pub none-saved : (j : List ℕ) (k : ℕ) → j ≡ sets j k (bytesOf (saved w f (placesIn t) s))
+  pub none-saved : (j : List ℕ) (k : ℕ) → j ≡ sets j k (bytesOf (saved w f (pointsIn t) s))
   unfolding saved bytesOf
-  none-saved j k = ap (λ (ps : List Place). sets j k (bytesOf (saved w f ps s))) (sym no-places)
+  none-saved j k = ap (λ (ps : List Point). sets j k (bytesOf (saved w f ps s))) (sym no-points)
 
 -- a record's clipped target on a surface that passed status 1, and a journal with room for it
 pub ready : (size h : ℕ) (clip : Rectangle) (p : Plan) (s j : List ℕ) → Good size (p .record)

@@ -7,10 +7,10 @@ use lib.ListN.{length, getD}
 use lib.Seq.{sets}
 use Rattle.words.specs.Bytes.{magnitude32, signed32}
 use Rattle.words.specs.Filled.{Filled}
-use Rattle.pixel.specs.Place.{maskPixel}
+use Rattle.pixel.specs.Position.{maskPixel}
 use Rattle.judge.specs.declared.Record.{Record}
 use Rattle.judge.specs.Good.{Good}
-use Rattle.region.specs.Target.{placesIn}
+use Rattle.region.specs.Target.{pointsIn}
 use Rattle.journal.specs.Drawing.{drawn}
 use Rattle.journal.specs.Records.{stride, bytesOf, saved}
 use Rattle.meaning.specs.Sampling.{sourceColumn}
@@ -59,6 +59,6 @@ pub record Buffers (p : Plan) (sourceColumns maskColumns colours bits : List ℕ
 abbrev pub Drawn : (s : List ℕ) → Plan → (surface journal surfaceAfter journalAfter : List ℕ) → Type 0
 Drawn s p surface journal surfaceAfter journalAfter =
     let paint = paintOn (p .target) (meaningIn s (p .record)) (p .brush) in
-    let places = placesIn (p .target) in
-    (surfaceAfter ≡ drawn (p .width) paint places surface)
-    × (journalAfter ≡ sets journal (p .at * stride) (bytesOf (saved (p .width) paint places surface)))
+    let points = pointsIn (p .target) in
+    (surfaceAfter ≡ drawn (p .width) paint points surface)
+    × (journalAfter ≡ sets journal (p .at * stride) (bytesOf (saved (p .width) paint points surface)))

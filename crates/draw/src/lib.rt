@@ -8,8 +8,8 @@ ghost use Rattle.judge.specs.Good.{Good};
 ghost use Rattle.sample.specs.At.{Colours};
 ghost use Rattle.picture.specs.Shown.{picturePalette};
 ghost use Rattle.draw.specs.Ready.{Ready, SourceColumns, MaskColumns, Mapped, Buffers, Drawn};
+use composite::Start;
 use judge::Record;
-use paint::Start;
 use region::Target;
 
 // The most columns that a row has, and as many as small buffers hold: clearing large ones would take most of a small play's time.
@@ -84,7 +84,7 @@ fn rows(
         };
         meaning::rows::of_source(s, r, masks, palette, source_columns, j, colours);
         meaning::rows::of_mask(s, r, mask_columns, j, bits);
-        paint::row(
+        composite::row(
             surface,
             p.width,
             journal,

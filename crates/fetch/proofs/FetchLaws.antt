@@ -11,8 +11,8 @@ use borrow.Author.Tests.{eqb-true}
 use Rattle.words.proofs.ChoiceLaws.{and-both}
 use Rattle.words.proofs.FillLaws.{filled-by}
 use Rattle.words.proofs.FillingLaws.{Filling, filling-begins, filling-turns, filling-ends}
-use Rattle.pixel.specs.Place.{isDepth}
-use Rattle.pixel.proofs.PlaceLaws.{on-depth}
+use Rattle.pixel.specs.Position.{isDepth}
+use Rattle.pixel.proofs.PositionLaws.{on-depth}
 use Rattle.dib.specs.declared.Masks.{Masks}
 use Rattle.sample.specs.Stored.{stored}
 use Rattle.sample.specs.Colour.{Sampled, shown}

@@ -6,7 +6,7 @@ use Prim.Native.Nat.{ℕ, _+_, _*_, _≤_, _<_}
 use lib.Dec.{eqb}
 use lib.ListN.{length, getD}
 use Rattle.words.specs.Filled.{Filled}
-use Rattle.pixel.specs.Place.{isDepth}
+use Rattle.pixel.specs.Position.{isDepth}
 use Rattle.dib.specs.declared.Masks.{Masks}
 use Rattle.sample.specs.Stored.{stored}
 use Rattle.sample.specs.Colour.{Sampled, shown}

@@ -13,11 +13,11 @@ use Rattle.words.specs.Bytes.{le32}
 use Rattle.words.proofs.ChoiceLaws.{cond-true, cond-false, and-by-second, and-by-first, and-both}
 use Rattle.meaning.specs.declared.Terms.{Terms}
 use Rattle.meaning.specs.Meaning.{termsAt}
-use Rattle.lent.specs.Lent.{Lent, lent, Outcome}
-use Rattle.lent.specs.Undoing.{undoOf}
+use Rattle.memory.specs.Memory.{Memory, memory, Outcome}
+use Rattle.memory.specs.Undoing.{undoOf}
 use Rattle.player.specs.declared.Answer.{Answer}
-use Rattle.player.specs.Left.{left}
-use Rattle.player.specs.Calls.{playWith, play}
+use Rattle.player.specs.Outcome.{outcomeOf}
+use Rattle.player.specs.Calls.{playWith, playOutcome}
 use Rattle.history.specs.Lists.{made}
 use Rattle.history.specs.Run.{playAt, padded, callLength, callAt}
 use Rattle.history.specs.Stepped.{Stepped}
@@ -98,18 +98,18 @@ module _ (l : List ℕ) (at : ℕ) where
 
   -- ---- the play that `play_at` reads
 
-  pub play-read : (o : Outcome) (w h : ℕ) (m : Lent) (terms : Terms) (n : ℕ) (s : List ℕ) → o ≡ play w h (playWith s terms) m
-      → terms ≡ termsAt l (at + 4) → n ≡ le32 l (at + 28) → s ≡ take n (drop (at + 32) l) → o ≡ play w h (playAt l at) m
+  pub play-read : (o : Outcome) (w h : ℕ) (m : Memory) (terms : Terms) (n : ℕ) (s : List ℕ) → o ≡ playOutcome w h (playWith s terms) m
+      → terms ≡ termsAt l (at + 4) → n ≡ le32 l (at + 28) → s ≡ take n (drop (at + 32) l) → o ≡ playOutcome w h (playAt l at) m
   play-read o w h m terms n s q et en es = cc
 
   -- ---- the ways through `call`
 
-  module _ (o : Outcome) (w h : ℕ) (m : Lent) (k : ℕ) (e : k ≡ le32 l at) where
+  module _ (o : Outcome) (w h : ℕ) (m : Memory) (k : ℕ) (e : k ≡ le32 l at) where
     pub call-undo : (k ≡ 1 → ⊥) → o ≡ undoOf w h m → o ≡ made w h (callAt l at) m
     unfolding callAt
     call-undo z q = rw (ne-eqb (le32 l at) 1 (λ p. z (e ∙ p))) q
 
-    pub call-play : k ≡ 1 → o ≡ play w h (playAt l at) m → o ≡ made w h (callAt l at) m
+    pub call-play : k ≡ 1 → o ≡ playOutcome w h (playAt l at) m → o ≡ made w h (callAt l at) m
     unfolding callAt
     call-play z q = rw (eq-eqb (le32 l at) 1 (sym e ∙ z)) q
 
@@ -118,11 +118,11 @@ module _ (l : List ℕ) (at : ℕ) where
 pub second-inside : (a : List ℕ) (k v : ℕ) → k + 2 ≤ length a → k + 1 < length (set a k v)
 second-inside a k v h = simp length-set (omega arith)
 
-pub stepped : (w h : ℕ) (l : List ℕ) (at : ℕ) (m : Lent) (r : Answer) (s1 j1 a : List ℕ) (k n : ℕ) → left r s1 j1 ≡ made w h (callAt l at) m
-    → n ≡ callLength l at → Stepped w h l at m (lent s1 j1 (r .used)) k a (set (set a k (r .status)) (k + 1) (r .pixels)) (at + n)
+pub stepped : (w h : ℕ) (l : List ℕ) (at : ℕ) (m : Memory) (r : Answer) (s1 j1 a : List ℕ) (k n : ℕ) → outcomeOf r s1 j1 ≡ made w h (callAt l at) m
+    → n ≡ callLength l at → Stepped w h l at m (memory s1 j1 (r .used)) k a (set (set a k (r .status)) (k + 1) (r .number)) (at + n)
 stepped w h l at m r s1 j1 a k n e q = record {
   after-is = ap (λ (o : Outcome). o .after) e;
-  answers-are = ap (λ (i : ℕ). set (set a k (r .status)) i (r .pixels)) (add-one k)
-      ∙ ap (λ (o : Outcome). sets a k (o .status ∷ o .pixels ∷ [])) e;
+  answers-are = ap (λ (i : ℕ). set (set a k (r .status)) i (r .number)) (add-one k)
+      ∙ ap (λ (o : Outcome). sets a k (o .status ∷ o .number ∷ [])) e;
   next-is = ap (λ (x : ℕ). at + x) q;
 }

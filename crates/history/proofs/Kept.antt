@@ -1,4 +1,4 @@
--- What links the lent memory and the pile, and stays so from call to call. Assumes nothing.
+-- What links the lent memory and the history, and stays so from call to call. Assumes nothing.
 use mathlib.Core.Path.{_≡_, refl, sym, ap, ap₂, _∙_}
 use mathlib.Core.List.{List, [], _∷_, _++_}
 use Prim.Native.Nat.{ℕ, _+_, _*_, _/_, _≤_}
@@ -7,40 +7,40 @@ use lib.ListN.{length, take, length-append}
 use Rattle.journal.specs.Records.{stride, Entry, bytesOf, saved}
 use Rattle.journal.proofs.RecordLaws.{length-drawn, length-saved}
 use Rattle.journal.proofs.UndoLaws.{words-drawn}
-use Rattle.lent.specs.Lent.{Lent, lent, Outcome, limits, lentStatus, records}
-use Rattle.lent.proofs.LimitLaws.{passed, limits-none}
-use Rattle.lent.specs.Playing.{appended}
+use Rattle.memory.specs.Memory.{Memory, memory, Outcome, limits, memoryStatus, records}
+use Rattle.memory.proofs.LimitLaws.{passed, limits-none}
+use Rattle.memory.specs.Playing.{appended}
 use Rattle.player.specs.Calls.{Play, work}
 use Rattle.player.proofs.WorkLaws.{paints-pixels}
-use Rattle.history.specs.Pile.{answered, Pile, pile, count, room, drawnAll, surfaceOf, roomOf, Turn}
+use Rattle.history.specs.History.{answered, History, history, count, recordsUsed, drawnAll, surfaceOf, usedOf, Turn}
 use Rattle.history.specs.Lists.{Words32}
 
--- ---- the surface and the journal of a pile's plays
+-- ---- the surface and the journal of a history's plays
 
 length-drawnAll : (w h : ℕ) (ps : List Play) (s : List ℕ) → length (drawnAll w h ps s) ≡ length s
 unfolding drawnAll
 length-drawnAll w h [] s = refl
-length-drawnAll w h (p ∷ ps) s = length-drawn w (work w h p .paint) (work w h p .places) (drawnAll w h ps s) ∙ length-drawnAll w h ps s
+length-drawnAll w h (p ∷ ps) s = length-drawn w (work w h p .paint) (work w h p .points) (drawnAll w h ps s) ∙ length-drawnAll w h ps s
 
 pub pixels-drawnAll : (w h : ℕ) (ps : List Play) (s : List ℕ) → Words32 s → Words32 (drawnAll w h ps s)
 unfolding drawnAll
 pixels-drawnAll w h [] s b = b
 pixels-drawnAll w h (p ∷ ps) s b =
-    words-drawn w (work w h p .paint) (paints-pixels w h p) (work w h p .places) (drawnAll w h ps s) (pixels-drawnAll w h ps s b)
+    words-drawn w (work w h p .paint) (paints-pixels w h p) (work w h p .points) (drawnAll w h ps s) (pixels-drawnAll w h ps s b)
 
 pub length-appended : (w h : ℕ) (p : Play) (s : List ℕ) → length (appended w (work w h p) s) ≡ count w h p + 1
 unfolding appended
 length-appended w h p s =
-    length-append (saved w (work w h p .paint) (work w h p .places) s) _
-    ∙ ap (λ (n : ℕ). n + 1) (length-saved w (work w h p .paint) (work w h p .places) s)
+    length-append (saved w (work w h p .paint) (work w h p .points) s) _
+    ∙ ap (λ (n : ℕ). n + 1) (length-saved w (work w h p .paint) (work w h p .points) s)
 
 -- all that the plays have appended, lowest first
 unfoldable pub entriesOf : (w h : ℕ) → List Play → (start : List ℕ) → List Entry
 entriesOf w h [] s = []
 entriesOf w h (p ∷ below) s = entriesOf w h below s ++ appended w (work w h p) (drawnAll w h below s)
 
-pub length-entries : (w h : ℕ) (ps : List Play) (s : List ℕ) → length (entriesOf w h ps s) ≡ room w h ps
-unfolding entriesOf room
+pub length-entries : (w h : ℕ) (ps : List Play) (s : List ℕ) → length (entriesOf w h ps s) ≡ recordsUsed w h ps
+unfolding entriesOf recordsUsed
 length-entries w h [] s = refl
 length-entries w h (p ∷ ps) s =
     length-append (entriesOf w h ps s) _ ∙ ap₂ (λ (n m : ℕ). n + m) (length-entries w h ps s) (length-appended w h p (drawnAll w h ps s))
@@ -56,7 +56,7 @@ pub record Frame (w h : ℕ) (start : List ℕ) (size : ℕ) : Type 0 where
   pub passes : (used : ℕ) → used ≤ size / stride → limits w h (length start) size used ≡ 0
 
 -- the count in use may change, up to the journal's records
-pub framed : (w h : ℕ) (s j : List ℕ) → Words32 s → lentStatus w h (lent s j 0) ≡ 0 → Frame w h s (length j)
+pub framed : (w h : ℕ) (s j : List ℕ) → Words32 s → memoryStatus w h (memory s j 0) ≡ 0 → Frame w h s (length j)
 framed w h s j b e =
     let p = passed w h (length s) (length j) 0 e in
     record {
@@ -69,26 +69,26 @@ framed w h s j b e =
 
 -- ---- the link, and one call
 
--- m is the memory that the pile q stands for
-pub record Kept (w h : ℕ) (q : Pile) (m : Lent) : Type 0 where
+-- m is the memory that the history q stands for
+pub record Kept (w h : ℕ) (q : History) (m : Memory) : Type 0 where
   pub surface : m .surface ≡ surfaceOf w h q
-  pub used : m .used ≡ roomOf w h q
+  pub used : m .used ≡ usedOf w h q
   pub size : records m ≡ q .records
-  pub fits : roomOf w h q ≤ q .records
-  pub journal : take (roomOf w h q * stride) (m .journal) ≡ bytesOf (entriesOf w h (q .plays) (q .start))
+  pub fits : usedOf w h q ≤ q .records
+  pub journal : take (usedOf w h q * stride) (m .journal) ≡ bytesOf (entriesOf w h (q .plays) (q .start))
   pub frame : Frame w h (q .start) (length (m .journal))
 
-pub kept-passes : (w h : ℕ) (q : Pile) (m : Lent) → Kept w h q m → lentStatus w h m ≡ 0
+pub kept-passes : (w h : ℕ) (q : History) (m : Memory) → Kept w h q m → memoryStatus w h m ≡ 0
 kept-passes w h q m K =
     ap (λ (n : ℕ). limits w h n (length (m .journal)) (m .used)) (ap length (K .surface) ∙ length-drawnAll w h (q .plays) (q .start))
     ∙ K .frame .passes (m .used) (omega (arith, K .used, K .fits, K .size))
 
--- a call's outcome and the pile's turn agree
+-- a call's outcome and the history's turn agree
 pub record Step (w h : ℕ) (o : Outcome) (t : Turn) : Type 0 where
-  pub answer : answered (o .status) (o .pixels) ≡ t .answer
+  pub answer : answered (o .status) (o .number) ≡ t .answer
   pub kept : Kept w h (t .next) (o .after)
 
 -- a list of calls begins
-pub kept-none : (w h : ℕ) (s j : List ℕ) → Frame w h s (length j) → Kept w h (pile s (records (lent s j 0)) []) (lent s j 0)
-unfolding drawnAll room entriesOf bytesOf
+pub kept-none : (w h : ℕ) (s j : List ℕ) → Frame w h s (length j) → Kept w h (history s (records (memory s j 0)) []) (memory s j 0)
+unfolding drawnAll recordsUsed entriesOf bytesOf
 kept-none w h s j F = record { surface = refl; used = refl; size = refl; fits = omega arith; journal = refl; frame = F }

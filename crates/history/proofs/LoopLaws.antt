@@ -9,9 +9,9 @@ use lib.ListN.{length}
 use lib.Seq.{sets}
 use lib.Dec.{eqb}
 use borrow.Author.Tests.{eq-eqb, ne-eqb}
-use Rattle.lent.specs.Lent.{lent}
-use Rattle.history.specs.Pile.{Call}
-use Rattle.history.specs.Lists.{answers, memory}
+use Rattle.memory.specs.Memory.{memory}
+use Rattle.history.specs.History.{Call}
+use Rattle.history.specs.Lists.{answers, memoryAfter}
 use Rattle.history.specs.Run.{callLength, callAt, wellFormed, callsFrom, numbersOf}
 use Rattle.history.specs.Stepped.{Stepped}
 
@@ -52,9 +52,9 @@ module _ (l : List ℕ) where
 pub record Running (w h : ℕ) (l : List ℕ) (n : ℕ) (s₀ j₀ a₀ s j a : List ℕ) (u at i : ℕ) : Type 0 where
   pub below : i ≤ n
   pub formed : wellFormed l at (n - i) ≡ true
-  pub memory-is : memory w h (callsFrom l at (n - i)) (lent s j u) ≡ memory w h (callsFrom l 4 n) (lent s₀ j₀ 0)
-  pub answers-are : sets a (i * 2) (numbersOf (answers w h (callsFrom l at (n - i)) (lent s j u)))
-      ≡ sets a₀ 0 (numbersOf (answers w h (callsFrom l 4 n) (lent s₀ j₀ 0)))
+  pub memory-is : memoryAfter w h (callsFrom l at (n - i)) (memory s j u) ≡ memoryAfter w h (callsFrom l 4 n) (memory s₀ j₀ 0)
+  pub answers-are : sets a (i * 2) (numbersOf (answers w h (callsFrom l at (n - i)) (memory s j u)))
+      ≡ sets a₀ 0 (numbersOf (answers w h (callsFrom l 4 n) (memory s₀ j₀ 0)))
   pub pixels : length s ≡ length s₀
   pub size : length j ≡ length j₀
   pub room : length a ≡ length a₀
@@ -64,8 +64,8 @@ module _ (w h : ℕ) (l : List ℕ) (n : ℕ) (s₀ j₀ a₀ : List ℕ) where
   running-begins f = record {
     below = omega arith;
     formed = ap (wellFormed l 4) (sub-zero n) ∙ f;
-    memory-is = ap (λ (k : ℕ). memory w h (callsFrom l 4 k) (lent s₀ j₀ 0)) (sub-zero n);
-    answers-are = ap (λ (k : ℕ). sets a₀ 0 (numbersOf (answers w h (callsFrom l 4 k) (lent s₀ j₀ 0)))) (sub-zero n);
+    memory-is = ap (λ (k : ℕ). memoryAfter w h (callsFrom l 4 k) (memory s₀ j₀ 0)) (sub-zero n);
+    answers-are = ap (λ (k : ℕ). sets a₀ 0 (numbersOf (answers w h (callsFrom l 4 k) (memory s₀ j₀ 0)))) (sub-zero n);
     pixels = refl;
     size = refl;
     room = refl;
@@ -84,19 +84,19 @@ module _ (w h : ℕ) (l : List ℕ) (n : ℕ) (s₀ j₀ a₀ : List ℕ) where
       left-is =
           ap (λ (k : ℕ). callAt l at ∷ callsFrom l (at + callLength l at) k) fewer ∙ sym (calls-next l at (n - i) (omega arith))
 
-      pub running-turns : (s1 j1 a1 : List ℕ) (v next : ℕ) → Stepped w h l at (lent s j u) (lent s1 j1 v) (i * 2) a a1 next → length s1 ≡ length s
+      pub running-turns : (s1 j1 a1 : List ℕ) (v next : ℕ) → Stepped w h l at (memory s j u) (memory s1 j1 v) (i * 2) a a1 next → length s1 ≡ length s
           → length j1 ≡ length j → length a1 ≡ length a → Running w h l n s₀ j₀ a₀ s1 j1 a1 v next (i + 1)
-      unfolding memory answers numbersOf
+      unfolding memoryAfter answers numbersOf
       running-turns s1 j1 a1 v next q ls lj la =
           let k : (i + 1) * 2 ≡ suc (suc (i * 2)) = omega arith in
           record {
             below = omega arith;
             formed = (λ x. wellFormed l (q .next-is x) (fewer x))
                 ∙ formed-more l true at (n - i) (r .formed) (callLength l at) (omega arith) refl running-stands;
-            memory-is = (λ x. memory w h (callsFrom l (q .next-is x) (n - (i + 1))) (q .after-is x))
-                ∙ ap (λ (ks : List Call). memory w h ks (lent s j u)) left-is ∙ r .memory-is;
+            memory-is = (λ x. memoryAfter w h (callsFrom l (q .next-is x) (n - (i + 1))) (q .after-is x))
+                ∙ ap (λ (ks : List Call). memoryAfter w h ks (memory s j u)) left-is ∙ r .memory-is;
             answers-are = (λ x. sets (q .answers-are x) (k x) (numbersOf (answers w h (callsFrom l (q .next-is x) (n - (i + 1))) (q .after-is x))))
-                ∙ ap (λ (ks : List Call). sets a (i * 2) (numbersOf (answers w h ks (lent s j u)))) left-is ∙ r .answers-are;
+                ∙ ap (λ (ks : List Call). sets a (i * 2) (numbersOf (answers w h ks (memory s j u)))) left-is ∙ r .answers-are;
             pixels = ls ∙ r .pixels;
             size = lj ∙ r .size;
             room = la ∙ r .room;
@@ -106,10 +106,10 @@ module _ (w h : ℕ) (l : List ℕ) (n : ℕ) (s₀ j₀ a₀ : List ℕ) where
       none : n - i ≡ 0
       none = omega arith
 
-      pub running-memory : lent s j u ≡ memory w h (callsFrom l 4 n) (lent s₀ j₀ 0)
-      unfolding memory callsFrom
-      running-memory = ap (λ (k : ℕ). memory w h (callsFrom l at k) (lent s j u)) (sym none) ∙ r .memory-is
+      pub running-memory : memory s j u ≡ memoryAfter w h (callsFrom l 4 n) (memory s₀ j₀ 0)
+      unfolding memoryAfter callsFrom
+      running-memory = ap (λ (k : ℕ). memoryAfter w h (callsFrom l at k) (memory s j u)) (sym none) ∙ r .memory-is
 
-      pub running-answers : a ≡ sets a₀ 0 (numbersOf (answers w h (callsFrom l 4 n) (lent s₀ j₀ 0)))
+      pub running-answers : a ≡ sets a₀ 0 (numbersOf (answers w h (callsFrom l 4 n) (memory s₀ j₀ 0)))
       unfolding answers callsFrom numbersOf
-      running-answers = ap (λ (k : ℕ). sets a (i * 2) (numbersOf (answers w h (callsFrom l at k) (lent s j u)))) (sym none) ∙ r .answers-are
+      running-answers = ap (λ (k : ℕ). sets a (i * 2) (numbersOf (answers w h (callsFrom l at k) (memory s j u)))) (sym none) ∙ r .answers-are

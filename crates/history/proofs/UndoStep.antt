@@ -1,4 +1,4 @@
--- An undo on the lent memory and on the pile. Assumes nothing.
+-- An undo on the lent memory and on the history. Assumes nothing.
 use mathlib.Core.Path.{_≡_, refl, sym, ap, ap₂, _∙_}
 use mathlib.Core.Bool.{false, not, _||_}
 use mathlib.Core.List.{List, [], _∷_, _++_, append-assoc}
@@ -9,45 +9,45 @@ use lib.ListN.{length, take, drop, length-append}
 use borrow.Author.Tests.{le-ltb, eq-eqb, ne-eqb}
 use Rattle.words.proofs.ChoiceLaws.{or-by-second}
 use Rattle.journal.specs.All.{All}
-use Rattle.journal.specs.Records.{stride, Entry, bytesOf, saved, closing, entriesAt}
+use Rattle.journal.specs.Records.{mark, stride, Entry, bytesOf, saved, closing, entriesAt}
 use Rattle.journal.specs.Restoring.{restored, anyOff}
 use Rattle.journal.proofs.RecordLaws.{length-saved, bytes-append}
 use Rattle.journal.proofs.UndoLaws.{restored-saved, saved-on, EntryWords, words-saved, closing-back, entries-back, front-drop, front-take}
-use Rattle.lent.specs.Lent.{Lent, outcome}
-use Rattle.lent.specs.Playing.{appended}
-use Rattle.lent.specs.Undoing.{last, named, top, badTop, undone, undoOf}
+use Rattle.memory.specs.Memory.{Memory, outcome}
+use Rattle.memory.specs.Playing.{appended}
+use Rattle.memory.specs.Undoing.{last, named, top, badTop, undone, undoOf}
 use Rattle.player.specs.Calls.{Play, work}
-use Rattle.player.proofs.WorkLaws.{places-on, paints-pixels}
-use Rattle.history.specs.Pile.{pile, count, room, drawnAll, takeOff}
+use Rattle.player.proofs.WorkLaws.{points-on, paints-pixels}
+use Rattle.history.specs.History.{history, count, recordsUsed, drawnAll, pop}
 use Rattle.history.proofs.Kept.{pixels-drawnAll, entriesOf, length-entries, Kept, kept-passes, Step}
 
 -- no play is in force
-undo-none : (w h : ℕ) (start : List ℕ) (n : ℕ) (m : Lent) → Kept w h (pile start n []) m → undoOf w h m ≡ outcome 15 0 m
-unfolding undoOf room
-undo-none w h start n m K = rw (kept-passes w h (pile start n []) m K, eq-eqb (m .used) 0 (K .used))
+undo-none : (w h : ℕ) (start : List ℕ) (n : ℕ) (m : Memory) → Kept w h (history start n []) m → undoOf w h m ≡ outcome 15 0 m
+unfolding undoOf recordsUsed
+undo-none w h start n m K = rw (kept-passes w h (history start n []) m K, eq-eqb (m .used) 0 (K .used))
 
 -- p is the top play, and those of `below` lie under it
-module _ (w h : ℕ) (start : List ℕ) (n : ℕ) (p : Play) (below : List Play) (m : Lent) (K : Kept w h (pile start n (p ∷ below)) m) where
+module _ (w h : ℕ) (start : List ℕ) (n : ℕ) (p : Play) (below : List Play) (m : Memory) (K : Kept w h (history start n (p ∷ below)) m) where
   -- the surface under the top play, and what the play saved of it
   under : List ℕ
   under = drawnAll w h below start
 
   held : List Entry
-  held = saved w (work w h p .paint) (work w h p .places) under
+  held = saved w (work w h p .paint) (work w h p .points) under
 
   closed : List Entry
   closed = closing (count w h p) (work w h p .kind) ∷ []
 
   length-held : length held ≡ count w h p
   unfolding held
-  length-held = length-saved w (work w h p .paint) (work w h p .places) under
+  length-held = length-saved w (work w h p .paint) (work w h p .points) under
 
-  used-is : m .used ≡ room w h below + (count w h p + 1)
-  unfolding room
+  used-is : m .used ≡ recordsUsed w h below + (count w h p + 1)
+  unfolding recordsUsed
   used-is = K .used
 
-  few : room w h below + (count w h p + 1) ≤ n
-  unfolding room
+  few : recordsUsed w h below + (count w h p + 1) ≤ n
+  unfolding recordsUsed
   few = K .fits
 
   -- the journal in use: the entries of the plays below, then what the top play saved, then its closing record
@@ -64,7 +64,7 @@ module _ (w h : ℕ) (start : List ℕ) (n : ℕ) (p : Play) (below : List Play)
       ap (λ (k : ℕ). drop (k * stride) (m .journal)) (sym la)
       ∙ front-drop (m .journal) (m .used * stride) a closed (in-use ∙ ap bytesOf (sym (append-assoc (entriesOf w h below start) held closed)))
 
-  closes : (last m .first ≡ 0xFFFFFFFF) × (named m ≡ count w h p)
+  closes : (last m .first ≡ mark) × (named m ≡ count w h p)
   unfolding closed
   closes =
       closing-back (m .journal) (m .used - 1) (count w h p) (work w h p .kind) (drop (m .used * stride) (m .journal)) last-bytes
@@ -74,8 +74,8 @@ module _ (w h : ℕ) (start : List ℕ) (n : ℕ) (p : Play) (below : List Play)
   words : All EntryWords held
   unfolding held under
   words =
-      words-saved w (work w h p .paint) (paints-pixels w h p) h (work w h p .places) under (omega (arith, K .frame .wide)) (omega (arith, K .frame .high))
-      (places-on w h p) (pixels-drawnAll w h below start (K .frame .pixels))
+      words-saved w (work w h p .paint) (paints-pixels w h p) h (work w h p .points) under (omega (arith, K .frame .wide)) (omega (arith, K .frame .high))
+      (points-on w h p) (pixels-drawnAll w h below start (K .frame .pixels))
 
   top-is : top m ≡ held
   top-is =
@@ -93,20 +93,20 @@ module _ (w h : ℕ) (start : List ℕ) (n : ℕ) (p : Play) (below : List Play)
   unfolding badTop held
   good-top =
       let u : named m ≤ m .used - 1 = omega (arith, used-is, closes .1) in
-      or-by-second (not (eqb (last m .first) 0xFFFFFFFF) || ltb (m .used - 1) (named m)) _
-      (or-by-second (not (eqb (last m .first) 0xFFFFFFFF)) _ (ap not (eq-eqb (last m .first) 0xFFFFFFFF (closes .0))) (le-ltb (m .used - 1) (named m) u))
-      (ap (anyOff w h) top-is ∙ saved-on w h (work w h p .paint) (work w h p .places) under (places-on w h p))
+      or-by-second (not (eqb (last m .first) mark) || ltb (m .used - 1) (named m)) _
+      (or-by-second (not (eqb (last m .first) mark)) _ (ap not (eq-eqb (last m .first) mark (closes .0))) (le-ltb (m .used - 1) (named m) u))
+      (ap (anyOff w h) top-is ∙ saved-on w h (work w h p .paint) (work w h p .points) under (points-on w h p))
 
   undo-is : undoOf w h m ≡ outcome 0 (count w h p) (undone w m)
   unfolding undoOf
   undo-is =
       let some : m .used ≡ 0 → ⊥ = λ z. omega (arith, used-is) in
-      rw (kept-passes w h (pile start n (p ∷ below)) m K, ne-eqb (m .used) 0 some, good-top, closes .1)
+      rw (kept-passes w h (history start n (p ∷ below)) m K, ne-eqb (m .used) 0 some, good-top, closes .1)
 
-  kept-less : Kept w h (pile start n below) (undone w m)
+  kept-less : Kept w h (history start n below) (undone w m)
   unfolding undone held under drawnAll
   kept-less = record {
-    surface = ap₂ (restored w) top-is (K .surface) ∙ restored-saved w (work w h p .paint) (work w h p .places) under;
+    surface = ap₂ (restored w) top-is (K .surface) ∙ restored-saved w (work w h p .paint) (work w h p .points) under;
     used = omega (arith, used-is, closes .1);
     size = K .size;
     fits = omega (arith, few);
@@ -116,7 +116,7 @@ module _ (w h : ℕ) (start : List ℕ) (n : ℕ) (p : Play) (below : List Play)
     frame = K .frame;
   }
 
-pub undo-step : (w h : ℕ) (start : List ℕ) (n : ℕ) (plays : List Play) (m : Lent) → Kept w h (pile start n plays) m
-    → Step w h (undoOf w h m) (takeOff w h plays (pile start n plays))
+pub undo-step : (w h : ℕ) (start : List ℕ) (n : ℕ) (plays : List Play) (m : Memory) → Kept w h (history start n plays) m
+    → Step w h (undoOf w h m) (pop w h plays (history start n plays))
 undo-step w h start n [] m K = rw (undo-none w h start n m K) (record { answer = refl; kept = K })
 undo-step w h start n (p ∷ below) m K = rw (undo-is w h start n p below m K) (record { answer = refl; kept = kept-less w h start n p below m K })

@@ -1,4 +1,4 @@
-pub mod Pile
+pub mod History
 pub mod Lists
 pub mod Run
 pub mod Reported

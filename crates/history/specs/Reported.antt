@@ -15,5 +15,5 @@ reported r surface journal answers = record {
 }
 
 -- the report of a refused run: no call was made
-abbrev pub refusal : (status : ℕ) → Report
-refusal status = record { status = status; calls = 0; used = 0 }
+abbrev pub refusedReport : (status : ℕ) → Report
+refusedReport status = record { status = status; calls = 0; used = 0 }

@@ -11,10 +11,10 @@ use lib.Dec.{eqb, leb, ltb}
 use Rattle.words.specs.Bytes.{partOf, le32}
 use Rattle.words.specs.Status.{given, orElse}
 use Rattle.meaning.specs.Meaning.{termsAt}
-use Rattle.lent.specs.Lent.{lent, lentStatus, records}
+use Rattle.memory.specs.Memory.{memory, memoryStatus, records}
 use Rattle.player.specs.Calls.{Play, playWith}
-use Rattle.history.specs.Pile.{Call, playing, undoing, Answered, pile, surfaceOf, roomOf, pileAnswers, pileAfter}
-use Rattle.history.specs.Lists.{memory}
+use Rattle.history.specs.History.{Call, callPlay, callUndo, Answered, history, surfaceOf, usedOf, historyAnswers, historyAfter}
+use Rattle.history.specs.Lists.{memoryAfter}
 
 -- a record's length, up to the next multiple of 4
 abbrev pub padded : ℕ → ℕ
@@ -31,7 +31,7 @@ playAt l at = playWith (partOf l (at + 32) (le32 l (at + 28))) (termsAt l (at + 
 
 -- the call at a place
 unfoldable pub callAt : (list : List ℕ) (at : ℕ) → Call
-callAt l at = cond (eqb (le32 l at) 1) (playing (playAt l at)) undoing
+callAt l at = cond (eqb (le32 l at) 1) (callPlay (playAt l at)) callUndo
 
 -- n calls from a place on, and nothing behind them
 unfoldable pub wellFormed : (list : List ℕ) (at n : ℕ) → Bool
@@ -51,12 +51,12 @@ callsOf l = callsFrom l 4 (callsIn l)
 -- the answers as numbers, two each
 unfoldable pub numbersOf : List Answered → List ℕ
 numbersOf [] = []
-numbersOf (a ∷ rest) = a .status ∷ a .pixels ∷ numbersOf rest
+numbersOf (a ∷ rest) = a .status ∷ a .number ∷ numbersOf rest
 
 -- 1 and 2; 29: the list is malformed; 30: the answers exceed the room
 unfoldable pub runStatus : (width height : ℕ) (surface journal list : List ℕ) (room : ℕ) → ℕ
 runStatus width height surface journal l room =
-    orElse (lentStatus width height (lent surface journal 0)) (given 29 (not (wellFormed l 4 (callsIn l))) (given 30 (ltb room (callsIn l * 2)) 0))
+    orElse (memoryStatus width height (memory surface journal 0)) (given 29 (not (wellFormed l 4 (callsIn l))) (given 30 (ltb room (callsIn l * 2)) 0))
 
 -- what a run answers and leaves
 pub record Ran : Type 0 where
@@ -67,15 +67,15 @@ pub record Ran : Type 0 where
   pub journal : List ℕ
   pub answers : List ℕ
 
--- a refused run changes nothing; a run answers what the pile answers, and leaves its surface and its room
+-- a refused run changes nothing; a run answers what the history answers, and leaves its surface and the records that it uses
 abbrev pub settleRun : (status : ℕ) (width height : ℕ) (surface journal list answers : List ℕ) → Ran
 settleRun zero width height surface journal l answers = record {
   status = 0;
   calls = callsIn l;
-  used = roomOf width height (pileAfter width height (callsOf l) (pile surface (records (lent surface journal 0)) []));
-  surface = surfaceOf width height (pileAfter width height (callsOf l) (pile surface (records (lent surface journal 0)) []));
-  journal = memory width height (callsOf l) (lent surface journal 0) .journal;
-  answers = sets answers 0 (numbersOf (pileAnswers width height (callsOf l) (pile surface (records (lent surface journal 0)) [])));
+  used = usedOf width height (historyAfter width height (callsOf l) (history surface (records (memory surface journal 0)) []));
+  surface = surfaceOf width height (historyAfter width height (callsOf l) (history surface (records (memory surface journal 0)) []));
+  journal = memoryAfter width height (callsOf l) (memory surface journal 0) .journal;
+  answers = sets answers 0 (numbersOf (historyAnswers width height (callsOf l) (history surface (records (memory surface journal 0)) [])));
 }
 settleRun (suc k) width height surface journal l answers =
     record { status = suc k; calls = 0; used = 0; surface = surface; journal = journal; answers = answers }

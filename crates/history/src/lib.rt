@@ -5,12 +5,12 @@ ghost use Prim.Native.Nat.{_+_, _*_, _≤_};
 ghost use lib.ListN.{length};
 ghost use lib.Seq.{sets};
 ghost use Rattle.words.specs.Bytes.{le32};
-ghost use Rattle.lent.specs.Lent.{lent};
-ghost use Rattle.player.specs.Calls.{play};
-ghost use Rattle.player.specs.Left.{left};
-ghost use Rattle.history.specs.Lists.{made, memory, answers as answersOf};
+ghost use Rattle.memory.specs.Memory.{memory};
+ghost use Rattle.player.specs.Calls.{playOutcome};
+ghost use Rattle.player.specs.Outcome.{outcomeOf};
+ghost use Rattle.history.specs.Lists.{made, memoryAfter, answers as answersOf};
 ghost use Rattle.history.specs.Run.{playAt, padded, callLength, callAt, wellFormed, callsFrom, numbersOf, runOf};
-ghost use Rattle.history.specs.Reported.{reported, refusal};
+ghost use Rattle.history.specs.Reported.{reported, refusedReport};
 ghost use Rattle.history.specs.Stepped.{Stepped};
 use player::Answer;
 
@@ -29,7 +29,7 @@ struct Step {
 
 // The report of a refused run.
 fn refused(status: u32) -> Report
-    ensures { λ r. ⌜ r ≡ refusal status ⌝ }
+    ensures { λ r. ⌜ r ≡ refusedReport status ⌝ }
 {
     Report {
         status: status,
@@ -95,7 +95,7 @@ fn play_at(
     at: usize,
 ) -> Answer
     requires { ⌜ at + (32 + padded (le32 (now list) (at + 28))) ≤ length (now list) ⌝ }
-    ensures { λ r. ⌜ left r (now (surface .exit)) (now (journal .exit)) ≡ play width height (playAt (now (list .entry)) at) (lent (now (surface .entry)) (now (journal .entry)) used) ⌝ }
+    ensures { λ r. ⌜ outcomeOf r (now (surface .exit)) (now (journal .exit)) ≡ playOutcome width height (playAt (now (list .entry)) at) (memory (now (surface .entry)) (now (journal .entry)) used) ⌝ }
 {
     let terms = meaning::read_terms(list, at + 4);
     let count = words::read_u32(list, at + 28) as usize;
@@ -114,7 +114,7 @@ fn call(
     at: usize,
 ) -> Answer
     requires { ⌜ (callLength (now list) at ≡ 0 → ⊥) ⌝ }
-    ensures { λ r. ⌜ left r (now (surface .exit)) (now (journal .exit)) ≡ made width height (callAt (now (list .entry)) at) (lent (now (surface .entry)) (now (journal .entry)) used) ⌝ }
+    ensures { λ r. ⌜ outcomeOf r (now (surface .exit)) (now (journal .exit)) ≡ made width height (callAt (now (list .entry)) at) (memory (now (surface .entry)) (now (journal .entry)) used) ⌝ }
 {
     let kind = words::read_u32(list, at);
     if kind != 1 {
@@ -123,7 +123,7 @@ fn call(
     play_at(surface, width, height, journal, used, list, at)
 }
 
-// Makes the call at a place of the list, with its status and its pixels at place k of the answers.
+// Makes the call at a place of the list, with its status and its number at place k of the answers.
 fn one(
     surface: &mut [u32],
     width: u32,
@@ -136,11 +136,11 @@ fn one(
     k: usize,
 ) -> Step
     requires { ⌜ (callLength (now list) at ≡ 0 → ⊥) × (k + 2 ≤ length (now answers)) ⌝ }
-    ensures { λ r. ⌜ Stepped width height (now (list .entry)) at (lent (now (surface .entry)) (now (journal .entry)) used) (lent (now (surface .exit)) (now (journal .exit)) (r .used)) k (now (answers .entry)) (now (answers .exit)) (r .at) ⌝ }
+    ensures { λ r. ⌜ Stepped width height (now (list .entry)) at (memory (now (surface .entry)) (now (journal .entry)) used) (memory (now (surface .exit)) (now (journal .exit)) (r .used)) k (now (answers .entry)) (now (answers .exit)) (r .at) ⌝ }
 {
     let answer = call(surface, width, height, journal, used, list, at);
     answers[k] = answer.status;
-    answers[k + 1] = answer.pixels;
+    answers[k + 1] = answer.number;
     let next = at + call_length(list, at);
     Step {
         used: answer.used,
@@ -159,8 +159,8 @@ fn all(
     answers: &mut [u32],
 ) -> u64
     requires { ⌜ (wellFormed (now list) 4 n ≡ true) × (n * 2 ≤ length (now answers)) ⌝ }
-    ensures { λ r. ⌜ lent (now (surface .exit)) (now (journal .exit)) r ≡ memory width height (callsFrom (now (list .entry)) 4 n) (lent (now (surface .entry)) (now (journal .entry)) 0) ⌝ }
-    ensures { λ r. ⌜ now (answers .exit) ≡ sets (now (answers .entry)) 0 (numbersOf (answersOf width height (callsFrom (now (list .entry)) 4 n) (lent (now (surface .entry)) (now (journal .entry)) 0))) ⌝ }
+    ensures { λ r. ⌜ memory (now (surface .exit)) (now (journal .exit)) r ≡ memoryAfter width height (callsFrom (now (list .entry)) 4 n) (memory (now (surface .entry)) (now (journal .entry)) 0) ⌝ }
+    ensures { λ r. ⌜ now (answers .exit) ≡ sets (now (answers .entry)) 0 (numbersOf (answersOf width height (callsFrom (now (list .entry)) 4 n) (memory (now (surface .entry)) (now (journal .entry)) 0))) ⌝ }
 {
     let mut used = 0;
     let mut at = 4;
@@ -184,7 +184,7 @@ fn all(
     used
 }
 
-// Runs a list of calls on a surface and a journal with none in use: the status and the pixels of each call go to `answers`.
+// Runs a list of calls on a surface and a journal with none in use: the status and the number of each call go to `answers`.
 // Status 29: the list is malformed. Status 30: the answers exceed their room. A refused run changes nothing.
 pub fn run(
     surface: &mut [u32],
@@ -196,7 +196,7 @@ pub fn run(
 ) -> Report
     ensures { λ r. ⌜ reported r (now (surface .exit)) (now (journal .exit)) (now (answers .exit)) ≡ runOf width height (now (surface .entry)) (now (journal .entry)) (now (list .entry)) (now (answers .entry)) ⌝ }
 {
-    let status = lent::status(width, height, surface.len(), journal.len(), 0);
+    let status = memory::status(width, height, surface.len(), journal.len(), 0);
     if status != 0 {
         return refused(status);
     }

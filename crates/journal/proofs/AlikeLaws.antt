@@ -6,7 +6,7 @@ use native.Mathlib.Nat.{add-zero}
 use native.Mathlib.Omega.{arith}
 use lib.ListN.{getD, set}
 use Rattle.region.specs.Target.{row}
-use Rattle.journal.specs.Drawing.{index, Paint, dot, drawn}
+use Rattle.journal.specs.Drawing.{pixelIndex, Paint, dot, drawn}
 use Rattle.journal.specs.Records.{Entry, entry, saved}
 
 -- n places of row y from column x on
@@ -16,8 +16,8 @@ Alike f g x n y = (i old : ℕ) → i < n → f old (x + i) y ≡ g old (x + i) 
 module _ (w : ℕ) (f g : Paint) where
   first : (x n y : ℕ) (s : List ℕ) → Alike f g x (suc n) y → dot w f x y s ≡ dot w g x y s
   first x n y s h =
-      let old : ℕ = getD s (index w x y) 0 in
-      ap (set s (index w x y)) (subst (λ (k : ℕ). f old k y ≡ g old k y) (add-zero x) (h 0 old (omega arith)))
+      let old : ℕ = getD s (pixelIndex w x y) 0 in
+      ap (set s (pixelIndex w x y)) (subst (λ (k : ℕ). f old k y ≡ g old k y) (add-zero x) (h 0 old (omega arith)))
 
   rest : (x n y : ℕ) → Alike f g x (suc n) y → Alike f g (suc x) n y
   rest x n y h i old l =
@@ -34,5 +34,5 @@ module _ (w : ℕ) (f g : Paint) where
   unfolding saved row
   saved-alike x zero y s h = refl
   saved-alike x (suc n) y s h =
-      ap (λ (l : List Entry). entry x y (getD s (index w x y) 0) ∷ l)
+      ap (λ (l : List Entry). entry x y (getD s (pixelIndex w x y) 0) ∷ l)
       (saved-alike (suc x) n y (dot w f x y s) (rest x n y h) ∙ ap (saved w g (row (suc x) n y)) (first x n y s h))

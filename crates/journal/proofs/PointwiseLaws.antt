@@ -9,25 +9,25 @@ use native.Mathlib.Omega.{arith}
 use lib.Arith.{digits-div, digits-mod}
 use lib.ListN.{length, getD, set, length-set}
 use lib.Seq.{getD-set-same, getD-set-other, set-comm}
-use Rattle.region.specs.Target.{Place, row, block}
+use Rattle.region.specs.Target.{Point, row, block}
 use Rattle.journal.specs.All.{All}
-use Rattle.journal.specs.Drawing.{index, Paint, dot, drawn}
+use Rattle.journal.specs.Drawing.{pixelIndex, Paint, dot, drawn}
 use Rattle.journal.specs.Records.{Entry, entry, saved}
 use Rattle.journal.proofs.RecordLaws.{length-drawn, drawn-append}
 
-abbrev at : ℕ → Place → ℕ
-at w p = index w (p .x) (p .y)
+abbrev at : ℕ → Point → ℕ
+at w p = pixelIndex w (p .x) (p .y)
 
 -- none of these places stands at k
-abbrev Off : ℕ → ℕ → List Place → Type 0
-Off w k ps = All (λ (p : Place). k ≢ at w p) ps
+abbrev Off : ℕ → ℕ → List Point → Type 0
+Off w k ps = All (λ (p : Point). k ≢ at w p) ps
 
 -- each stands behind k
-abbrev After : ℕ → ℕ → List Place → Type 0
-After w k ps = All (λ (p : Place). k < at w p) ps
+abbrev After : ℕ → ℕ → List Point → Type 0
+After w k ps = All (λ (p : Point). k < at w p) ps
 
 -- each stands behind those before it
-abbrev Ascends : ℕ → List Place → Type 0
+abbrev Ascends : ℕ → List Point → Type 0
 Ascends w [] = Unit {0}
 Ascends w (p ∷ ps) = After w (at w p) ps × Ascends w ps
 
@@ -46,15 +46,15 @@ after-block : (w b x n y m : ℕ) → b < y * w → After w b (block x n y m)
 unfolding block
 after-block w b x n y zero h = tt
 after-block w b x n y (suc m) h =
-    all-append (λ (p : Place). b < at w p) (row x n y) (block x n (suc y) m) (after-row w b x n y (omega arith))
+    all-append (λ (p : Point). b < at w p) (row x n y) (block x n (suc y) m) (after-row w b x n y (omega arith))
     (after-block w b x n (suc y) m (omega (arith, suc-mul y w)))
 
-ascends-row : (w x n y : ℕ) (ps : List Place) → (1 ≤ n → x + n ≤ w) → ((b : ℕ) → b < suc y * w → After w b ps) → Ascends w ps → Ascends w (row x n y ++ ps)
+ascends-row : (w x n y : ℕ) (ps : List Point) → (1 ≤ n → x + n ≤ w) → ((b : ℕ) → b < suc y * w → After w b ps) → Ascends w ps → Ascends w (row x n y ++ ps)
 unfolding row
 ascends-row w x zero y ps h f a = a
 ascends-row w x (suc n) y ps h f a =
     let e : x + suc n ≤ w = h (omega arith) in (
-      all-append (λ (p : Place). y * w + x < at w p) (row (suc x) n y) ps (after-row w (y * w + x) (suc x) n y (omega arith))
+      all-append (λ (p : Point). y * w + x < at w p) (row (suc x) n y) ps (after-row w (y * w + x) (suc x) n y (omega arith))
           (f (y * w + x) (omega (arith, suc-mul y w))),
       ascends-row w (suc x) n y ps (λ k. omega arith) f a,
     )
@@ -82,7 +82,7 @@ le-next y k = omega arith
 module _ (w : ℕ) (f : Paint) where
   -- ---- the records hold the pixels of the surface before
 
-  saved-set : (ps : List Place) (s : List ℕ) (k v : ℕ) → After w k ps → saved w f ps (set s k v) ≡ saved w f ps s
+  saved-set : (ps : List Point) (s : List ℕ) (k v : ℕ) → After w k ps → saved w f ps (set s k v) ≡ saved w f ps s
   unfolding saved
   saved-set [] s k v a = refl
   saved-set (p ∷ ps) s k v a =
@@ -94,8 +94,8 @@ module _ (w : ℕ) (f : Paint) where
       (λ t. entry (p .x) (p .y) (g t) ∷ saved w f ps (d t))
       ∙ ap (λ (l : List Entry). entry (p .x) (p .y) (getD s i 0) ∷ l) (saved-set ps (dot w f (p .x) (p .y) s) k v (a .1))
 
-  saved-first : (ps : List Place) (s : List ℕ) → Ascends w ps
-      → saved w f ps s ≡ map (λ (p : Place). entry (p .x) (p .y) (getD s (index w (p .x) (p .y)) 0)) ps
+  saved-first : (ps : List Point) (s : List ℕ) → Ascends w ps
+      → saved w f ps s ≡ map (λ (p : Point). entry (p .x) (p .y) (getD s (pixelIndex w (p .x) (p .y)) 0)) ps
   unfolding saved
   saved-first [] s a = refl
   saved-first (p ∷ ps) s a =
@@ -103,17 +103,17 @@ module _ (w : ℕ) (f : Paint) where
       (saved-set ps s (at w p) (f (getD s (at w p) 0) (p .x) (p .y)) (a .0) ∙ saved-first ps s (a .1))
 
   pub saved-before : (x n y m : ℕ) (s : List ℕ) → (1 ≤ n → x + n ≤ w)
-      → saved w f (block x n y m) s ≡ map (λ (p : Place). entry (p .x) (p .y) (getD s (index w (p .x) (p .y)) 0)) (block x n y m)
+      → saved w f (block x n y m) s ≡ map (λ (p : Point). entry (p .x) (p .y) (getD s (pixelIndex w (p .x) (p .y)) 0)) (block x n y m)
   saved-before x n y m s h = saved-first (block x n y m) s (ascends-block w x n y m h)
 
   -- ---- the surface
 
-  drawn-off : (ps : List Place) (s : List ℕ) (k : ℕ) → Off w k ps → getD (drawn w f ps s) k 0 ≡ getD s k 0
+  drawn-off : (ps : List Point) (s : List ℕ) (k : ℕ) → Off w k ps → getD (drawn w f ps s) k 0 ≡ getD s k 0
   unfolding drawn
   drawn-off [] s k a = refl
   drawn-off (p ∷ ps) s k a = drawn-off ps (dot w f (p .x) (p .y) s) k (a .1) ∙ getD-set-other s (at w p) k _ 0 (a .0)
 
-  after-off : (k : ℕ) (ps : List Place) → After w k ps → Off w k ps
+  after-off : (k : ℕ) (ps : List Point) → After w k ps → Off w k ps
   after-off k [] a = tt
   after-off k (p ∷ ps) a = ((λ e. omega (arith, a .0, e)), after-off k ps (a .1))
 
@@ -128,7 +128,7 @@ module _ (w : ℕ) (f : Paint) where
 
   -- column x + i of a row
   drawn-row : (x n y i : ℕ) (s : List ℕ) → i < n → y * w + x + n ≤ length s
-      → getD (drawn w f (row x n y) s) (index w (x + i) y) 0 ≡ f (getD s (index w (x + i) y) 0) (x + i) y
+      → getD (drawn w f (row x n y) s) (pixelIndex w (x + i) y) 0 ≡ f (getD s (pixelIndex w (x + i) y) 0) (x + i) y
   unfolding drawn row
   drawn-row x zero y i s h l = absurd (omega arith)
   drawn-row x (suc n) y zero s h l =
@@ -143,7 +143,7 @@ module _ (w : ℕ) (f : Paint) where
 
   -- column x + i and row y + k of a block
   pub drawn-inside : (x n y m i k : ℕ) (s : List ℕ) → i < n → k < m → x + n ≤ w → (y + m) * w ≤ length s
-      → getD (drawn w f (block x n y m) s) (index w (x + i) (y + k)) 0 ≡ f (getD s (index w (x + i) (y + k)) 0) (x + i) (y + k)
+      → getD (drawn w f (block x n y m) s) (pixelIndex w (x + i) (y + k)) 0 ≡ f (getD s (pixelIndex w (x + i) (y + k)) 0) (x + i) (y + k)
   unfolding block
   drawn-inside x n y zero i k s a b h l = absurd (omega arith)
   drawn-inside x n y (suc m) i zero s a b h l =
@@ -165,7 +165,7 @@ module _ (w : ℕ) (f : Paint) where
   -- ---- a place that the block does not hold
 
   module _ (x′ y′ : ℕ) (h : x′ < w) where
-    off-row : (x n y : ℕ) → (1 ≤ n → x + n ≤ w) → (y′ ≡ y → x ≤ x′ → x′ < x + n → ⊥) → Off w (index w x′ y′) (row x n y)
+    off-row : (x n y : ℕ) → (1 ≤ n → x + n ≤ w) → (y′ ≡ y → x ≤ x′ → x′ < x + n → ⊥) → Off w (pixelIndex w x′ y′) (row x n y)
     unfolding row
     off-row x zero y l g = tt
     off-row x (suc n) y l g =
@@ -174,14 +174,14 @@ module _ (w : ℕ) (f : Paint) where
           off-row (suc x) n y (λ k. omega arith) (λ e u v. g e (omega arith) (omega arith)),
         )
 
-    off-block : (x n y m : ℕ) → (1 ≤ n → x + n ≤ w) → (y ≤ y′ → y′ < y + m → x ≤ x′ → x′ < x + n → ⊥) → Off w (index w x′ y′) (block x n y m)
+    off-block : (x n y m : ℕ) → (1 ≤ n → x + n ≤ w) → (y ≤ y′ → y′ < y + m → x ≤ x′ → x′ < x + n → ⊥) → Off w (pixelIndex w x′ y′) (block x n y m)
     unfolding block
     off-block x n y zero l g = tt
     off-block x n y (suc m) l g =
-        all-append (λ (p : Place). index w x′ y′ ≢ at w p) (row x n y) (block x n (suc y) m)
+        all-append (λ (p : Point). pixelIndex w x′ y′ ≢ at w p) (row x n y) (block x n (suc y) m)
         (off-row x n y l (λ e u v. g (omega (arith, e)) (omega (arith, e)) u v))
         (off-block x n (suc y) m l (λ a b u v. g (omega arith) (omega arith) u v))
 
     pub drawn-outside : (x n y m : ℕ) (s : List ℕ) → (1 ≤ n → x + n ≤ w) → (y ≤ y′ → y′ < y + m → x ≤ x′ → x′ < x + n → ⊥)
-        → getD (drawn w f (block x n y m) s) (index w x′ y′) 0 ≡ getD s (index w x′ y′) 0
-    drawn-outside x n y m s l g = drawn-off (block x n y m) s (index w x′ y′) (off-block x n y m l g)
+        → getD (drawn w f (block x n y m) s) (pixelIndex w x′ y′) 0 ≡ getD s (pixelIndex w x′ y′) 0
+    drawn-outside x n y m s l g = drawn-off (block x n y m) s (pixelIndex w x′ y′) (off-block x n y m l g)

@@ -7,8 +7,8 @@ use native.Mathlib.Numerals.{towards-suc}
 use lib.ListN.{length, getD, length-set}
 use lib.Seq.{sets}
 use Rattle.words.specs.Bytes.{bytes32}
-use Rattle.region.specs.Target.{Place}
-use Rattle.journal.specs.Drawing.{index, Paint, dot, drawn}
+use Rattle.region.specs.Target.{Point}
+use Rattle.journal.specs.Drawing.{pixelIndex, Paint, dot, drawn}
 use Rattle.journal.specs.Records.{stride, Entry, entry, entryBytes, bytesOf, saved}
 
 -- three numbers stored one behind the other are a record
@@ -28,24 +28,24 @@ bytes-append [] fs = refl
 bytes-append (e ∷ es) fs = ap (λ (l : List ℕ). entryBytes (e .first) (e .second) (e .third) ++ l) (bytes-append es fs)
 
 module _ (w : ℕ) (f : Paint) where
-  pub length-drawn : (ps : List Place) (s : List ℕ) → length (drawn w f ps s) ≡ length s
+  pub length-drawn : (ps : List Point) (s : List ℕ) → length (drawn w f ps s) ≡ length s
   unfolding drawn
   length-drawn [] s = refl
   length-drawn (p ∷ ps) s = length-drawn ps (dot w f (p .x) (p .y) s) ∙ length-set s _ _
 
-  pub length-saved : (ps : List Place) (s : List ℕ) → length (saved w f ps s) ≡ length ps
+  pub length-saved : (ps : List Point) (s : List ℕ) → length (saved w f ps s) ≡ length ps
   unfolding saved
   length-saved [] s = refl
   length-saved (p ∷ ps) s = ap suc (length-saved ps (dot w f (p .x) (p .y) s))
 
   -- places drawn in two goes
-  pub drawn-append : (ps qs : List Place) (s : List ℕ) → drawn w f (ps ++ qs) s ≡ drawn w f qs (drawn w f ps s)
+  pub drawn-append : (ps qs : List Point) (s : List ℕ) → drawn w f (ps ++ qs) s ≡ drawn w f qs (drawn w f ps s)
   unfolding drawn
   drawn-append [] qs s = refl
   drawn-append (p ∷ ps) qs s = drawn-append ps qs (dot w f (p .x) (p .y) s)
 
-  pub saved-append : (ps qs : List Place) (s : List ℕ) → saved w f (ps ++ qs) s ≡ saved w f ps s ++ saved w f qs (drawn w f ps s)
+  pub saved-append : (ps qs : List Point) (s : List ℕ) → saved w f (ps ++ qs) s ≡ saved w f ps s ++ saved w f qs (drawn w f ps s)
   unfolding drawn saved
   saved-append [] qs s = refl
   saved-append (p ∷ ps) qs s =
-      ap (λ (l : List Entry). entry (p .x) (p .y) (getD s (index w (p .x) (p .y)) 0) ∷ l) (saved-append ps qs (dot w f (p .x) (p .y) s))
+      ap (λ (l : List Entry). entry (p .x) (p .y) (getD s (pixelIndex w (p .x) (p .y)) 0) ∷ l) (saved-append ps qs (dot w f (p .x) (p .y) s))

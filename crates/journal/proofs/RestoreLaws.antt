@@ -11,7 +11,7 @@ use lib.Dec.{leb}
 use lib.ListN.{length, set, length-set}
 use borrow.Author.Tests.{le-leb, lt-leb, leb-false}
 use Rattle.words.proofs.ChoiceLaws.{or-by-first, or-by-second, or-none}
-use Rattle.journal.specs.Drawing.{index}
+use Rattle.journal.specs.Drawing.{pixelIndex}
 use Rattle.journal.specs.Records.{Entry, entryAt, entriesAt}
 use Rattle.journal.specs.Restoring.{restored, anyOff}
 
@@ -89,10 +89,10 @@ entries-last j from (suc n) =
     (entries-last j (suc from) n ∙ ap (λ (k : ℕ). entriesAt j (suc from) n ++ (entryAt j k ∷ [])) m)
 
 restored-last : (w : ℕ) (es : List Entry) (e : Entry) (s : List ℕ)
-    → restored w (es ++ (e ∷ [])) s ≡ restored w es (set s (index w (e .first) (e .second)) (e .third))
+    → restored w (es ++ (e ∷ [])) s ≡ restored w es (set s (pixelIndex w (e .first) (e .second)) (e .third))
 unfolding restored
 restored-last w [] e s = refl
-restored-last w (f ∷ es) e s = ap (λ (l : List ℕ). set l (index w (f .first) (f .second)) (f .third)) (restored-last w es e s)
+restored-last w (f ∷ es) e s = ap (λ (l : List ℕ). set l (pixelIndex w (f .first) (f .second)) (f .third)) (restored-last w es e s)
 
 -- the records below i are still to restore
 pub record Restoring (w : ℕ) (j : List ℕ) (from n : ℕ) (s₀ s : List ℕ) (i : ℕ) : Type 0 where

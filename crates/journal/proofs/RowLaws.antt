@@ -8,30 +8,30 @@ use native.Mathlib.Nat.{add-zero, sub-zero, mul-add}
 use lib.ListN.{length, getD, set, length-set}
 use lib.Seq.{sets, length-sets}
 use Rattle.words.proofs.ListLaws.{sets-append}
-use Rattle.region.specs.Target.{Place, row, block}
+use Rattle.region.specs.Target.{Point, row, block}
 use Rattle.region.proofs.TargetLaws.{length-row}
-use Rattle.journal.specs.Drawing.{index, Paint, dot, drawn}
+use Rattle.journal.specs.Drawing.{pixelIndex, Paint, dot, drawn}
 use Rattle.journal.specs.Records.{stride, entryBytes, bytesOf, saved}
 use Rattle.journal.proofs.RecordLaws.{length-bytes, bytes-append, length-drawn, length-saved, drawn-append, saved-append}
 
 -- surface s and journal j, with the places ps still to draw and their records from i on, come to what s₀ and j₀ come to with ps₀ and i₀
-pub record Leads (w : ℕ) (f : Paint) (ps₀ : List Place) (i₀ : ℕ) (s₀ j₀ : List ℕ) (ps : List Place) (i : ℕ) (s j : List ℕ) : Type 0 where
+pub record Leads (w : ℕ) (f : Paint) (ps₀ : List Point) (i₀ : ℕ) (s₀ j₀ : List ℕ) (ps : List Point) (i : ℕ) (s j : List ℕ) : Type 0 where
   pub surface : drawn w f ps s ≡ drawn w f ps₀ s₀
   pub journal : sets j (i * stride) (bytesOf (saved w f ps s)) ≡ sets j₀ (i₀ * stride) (bytesOf (saved w f ps₀ s₀))
   pub pixels : length s ≡ length s₀
   pub size : length j ≡ length j₀
 
-pub leads-none : (w : ℕ) (f : Paint) (i : ℕ) (ps : List Place) (s j : List ℕ) → Leads w f ps i s j ps i s j
+pub leads-none : (w : ℕ) (f : Paint) (i : ℕ) (ps : List Point) (s j : List ℕ) → Leads w f ps i s j ps i s j
 leads-none w f i ps s j = record { surface = refl; journal = refl; pixels = refl; size = refl }
 
 -- one pixel
-module _ (w : ℕ) (f : Paint) (i₀ : ℕ) (ps₀ ps : List Place) (s₀ j₀ s j : List ℕ) (x y i : ℕ) where
-  pub leads-one : (k v : ℕ) (j1 : List ℕ) (i1 : ℕ) → Leads w f ps₀ i₀ s₀ j₀ (record { x = x; y = y } ∷ ps) i s j → k ≡ index w x y
+module _ (w : ℕ) (f : Paint) (i₀ : ℕ) (ps₀ ps : List Point) (s₀ j₀ s j : List ℕ) (x y i : ℕ) where
+  pub leads-one : (k v : ℕ) (j1 : List ℕ) (i1 : ℕ) → Leads w f ps₀ i₀ s₀ j₀ (record { x = x; y = y } ∷ ps) i s j → k ≡ pixelIndex w x y
       → v ≡ f (getD s k 0) x y → j1 ≡ sets j (i * stride) (entryBytes x y (getD s k 0)) → i1 ≡ i + 1 → Leads w f ps₀ i₀ s₀ j₀ ps i1 (set s k v) j1
   unfolding drawn saved bytesOf
   leads-one k v j1 i1 l ek ev ej ei =
       let e : set s k v ≡ dot w f x y s = ap (set s k) ev ∙ ap (λ (n : ℕ). set s n (f (getD s n 0) x y)) ek in
-      let t : List ℕ = entryBytes x y (getD s (index w x y) 0) in
+      let t : List ℕ = entryBytes x y (getD s (pixelIndex w x y) 0) in
       record {
         surface = ap (drawn w f ps) e ∙ l .surface;
         journal = (λ m. sets ((ej ∙ ap (λ (n : ℕ). sets j (i * stride) (entryBytes x y (getD s n 0))) ek) m) (i1 * stride) (bytesOf (saved w f ps (e m))))
@@ -41,7 +41,7 @@ module _ (w : ℕ) (f : Paint) (i₀ : ℕ) (ps₀ ps : List Place) (s₀ j₀ s
       }
 
 -- several pixels
-pub leads-some : (w : ℕ) (f : Paint) (i₀ : ℕ) (ps₀ qs ps : List Place) (s₀ j₀ s j s1 j1 : List ℕ) (i i1 : ℕ)
+pub leads-some : (w : ℕ) (f : Paint) (i₀ : ℕ) (ps₀ qs ps : List Point) (s₀ j₀ s j s1 j1 : List ℕ) (i i1 : ℕ)
     → Leads w f ps₀ i₀ s₀ j₀ (qs ++ ps) i s j → s1 ≡ drawn w f qs s → j1 ≡ sets j (i * stride) (bytesOf (saved w f qs s)) → i1 ≡ i + length qs
     → Leads w f ps₀ i₀ s₀ j₀ ps i1 s1 j1
 leads-some w f i₀ ps₀ qs ps s₀ j₀ s j s1 j1 i i1 l es ej ei =
@@ -81,7 +81,7 @@ module _ (w : ℕ) (f : Paint) (at x n y : ℕ) (s₀ j₀ : List ℕ) where
   pub row-begins : Row w f at x n y s₀ j₀ s₀ j₀ 0
   row-begins = record {
     below = omega arith;
-    leads = subst (λ (ps : List Place). Leads w f (row x n y) at s₀ j₀ ps (at + 0) s₀ j₀) (λ t. row (sym (add-zero x) t) (sym (sub-zero n) t) y)
+    leads = subst (λ (ps : List Point). Leads w f (row x n y) at s₀ j₀ ps (at + 0) s₀ j₀) (λ t. row (sym (add-zero x) t) (sym (sub-zero n) t) y)
         (subst (λ (i : ℕ). Leads w f (row x n y) at s₀ j₀ (row x n y) i s₀ j₀) (sym (add-zero at)) (leads-none w f at (row x n y) s₀ j₀));
   }
 
@@ -122,7 +122,7 @@ module _ (w : ℕ) (f : Paint) (at x n y m : ℕ) (s₀ j₀ : List ℕ) where
   rows-begin = record {
     below = omega arith;
     next-record = omega arith;
-    leads = subst (λ (ps : List Place). Leads w f (block x n y m) at s₀ j₀ ps at s₀ j₀) (λ t. block x n (sym (add-zero y) t) (sym (sub-zero m) t))
+    leads = subst (λ (ps : List Point). Leads w f (block x n y m) at s₀ j₀ ps at s₀ j₀) (λ t. block x n (sym (add-zero y) t) (sym (sub-zero m) t))
         (leads-none w f at (block x n y m) s₀ j₀);
   }
 

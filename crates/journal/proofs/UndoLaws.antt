@@ -12,29 +12,29 @@ use borrow.Author.Tests.{lt-leb}
 use Rattle.words.specs.Bytes.{le32, bytes32}
 use Rattle.words.proofs.ByteLaws.{le-drop, le32-bytes32}
 use Rattle.words.proofs.ChoiceLaws.{or-by-second}
-use Rattle.region.specs.Target.{Place}
+use Rattle.region.specs.Target.{Point}
 use Rattle.journal.specs.All.{All}
-use Rattle.journal.specs.Drawing.{index, Paint, dot, drawn}
-use Rattle.journal.specs.Records.{stride, Entry, entry, entryBytes, bytesOf, saved, closing, entryAt, entriesAt}
+use Rattle.journal.specs.Drawing.{pixelIndex, Paint, dot, drawn}
+use Rattle.journal.specs.Records.{mark, stride, Entry, entry, entryBytes, bytesOf, saved, closing, entryAt, entriesAt}
 use Rattle.journal.specs.Restoring.{restored, anyOff}
 use Rattle.journal.proofs.RecordLaws.{length-bytes, bytes-append}
 
 -- ---- restoring what was saved
 
-pub restored-saved : (w : ℕ) (f : Paint) (ps : List Place) (s : List ℕ) → restored w (saved w f ps s) (drawn w f ps s) ≡ s
+pub restored-saved : (w : ℕ) (f : Paint) (ps : List Point) (s : List ℕ) → restored w (saved w f ps s) (drawn w f ps s) ≡ s
 unfolding restored saved drawn
 restored-saved w f [] s = refl
 restored-saved w f (p ∷ ps) s =
-    let k : ℕ = index w (p .x) (p .y) in
+    let k : ℕ = pixelIndex w (p .x) (p .y) in
     ap (λ (r : List ℕ). set r k (getD s k 0)) (restored-saved w f ps (dot w f (p .x) (p .y) s)) ∙ set-set s k _ _ ∙ set-getD s k 0
 
 -- ---- the records of places on the surface
 
-pub record OnSurface (w h : ℕ) (p : Place) : Type 0 where
+pub record OnSurface (w h : ℕ) (p : Point) : Type 0 where
   pub column : p .x < w
   pub line : p .y < h
 
-pub saved-on : (w h : ℕ) (f : Paint) (ps : List Place) (s : List ℕ) → All (OnSurface w h) ps → anyOff w h (saved w f ps s) ≡ false
+pub saved-on : (w h : ℕ) (f : Paint) (ps : List Point) (s : List ℕ) → All (OnSurface w h) ps → anyOff w h (saved w f ps s) ≡ false
 unfolding saved anyOff
 saved-on w h f [] s on = refl
 saved-on w h f (p ∷ ps) s on =
@@ -70,19 +70,19 @@ words-set (x ∷ s) (suc i) v hs hv (suc k) = words-set s i v (λ n. hs (suc n))
 
 module _ (w : ℕ) (f : Paint) (keeps : KeepsWords f) where
   words-dot : (x y : ℕ) (s : List ℕ) → PixelWords s → PixelWords (dot w f x y s)
-  words-dot x y s hs = words-set s (index w x y) _ hs (keeps (getD s (index w x y) 0) x y (hs (index w x y)))
+  words-dot x y s hs = words-set s (pixelIndex w x y) _ hs (keeps (getD s (pixelIndex w x y) 0) x y (hs (pixelIndex w x y)))
 
-  pub words-drawn : (ps : List Place) (s : List ℕ) → PixelWords s → PixelWords (drawn w f ps s)
+  pub words-drawn : (ps : List Point) (s : List ℕ) → PixelWords s → PixelWords (drawn w f ps s)
   unfolding drawn
   words-drawn [] s hs = hs
   words-drawn (p ∷ ps) s hs = words-drawn ps (dot w f (p .x) (p .y) s) (words-dot (p .x) (p .y) s hs)
 
-  pub words-saved : (h : ℕ) (ps : List Place) (s : List ℕ) → w ≤ 2 ^ 32 → h ≤ 2 ^ 32 → All (OnSurface w h) ps → PixelWords s
+  pub words-saved : (h : ℕ) (ps : List Point) (s : List ℕ) → w ≤ 2 ^ 32 → h ≤ 2 ^ 32 → All (OnSurface w h) ps → PixelWords s
       → All EntryWords (saved w f ps s)
   unfolding saved
   words-saved h [] s hw hh on hs = tt
   words-saved h (p ∷ ps) s hw hh on hs = (
-    record { first = omega (arith, on .0 .column); second = omega (arith, on .0 .line); third = hs (index w (p .x) (p .y)) },
+    record { first = omega (arith, on .0 .column); second = omega (arith, on .0 .line); third = hs (pixelIndex w (p .x) (p .y)) },
     words-saved h ps (dot w f (p .x) (p .y) s) hw hh (on .1) (words-dot (p .x) (p .y) s hs),
   )
 
@@ -112,10 +112,10 @@ module _ (j : List ℕ) (i a b c : ℕ) (rest : List ℕ) (q : drop (i * stride)
 
 -- a closing record: its type need not be of 32 bits
 pub closing-back : (j : List ℕ) (i count kind : ℕ) (rest : List ℕ) → drop (i * stride) j ≡ bytesOf (closing count kind ∷ []) ++ rest → Word count
-    → (entryAt j i .first ≡ 0xFFFFFFFF) × (entryAt j i .second ≡ count)
+    → (entryAt j i .first ≡ mark) × (entryAt j i .second ≡ count)
 unfolding bytesOf
 closing-back j i count kind rest q b =
-    (first-back j i 0xFFFFFFFF count kind rest q (omega arith), second-back j i 0xFFFFFFFF count kind rest q b)
+    (first-back j i mark count kind rest q (omega arith), second-back j i mark count kind rest q b)
 
 -- several records
 pub entries-back : (es : List Entry) (j : List ℕ) (i : ℕ) (rest : List ℕ) → All EntryWords es → drop (i * stride) j ≡ bytesOf es ++ rest

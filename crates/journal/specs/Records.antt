@@ -3,8 +3,8 @@ use Prim.Native.Nat.{ℕ, zero, suc, _+_, _*_}
 use mathlib.Core.List.{List, [], _∷_, _++_}
 use lib.ListN.{getD}
 use Rattle.words.specs.Bytes.{le32, bytes32}
-use Rattle.region.specs.Target.{Place}
-use Rattle.journal.specs.Drawing.{index, Paint, dot}
+use Rattle.region.specs.Target.{Point}
+use Rattle.journal.specs.Drawing.{pixelIndex, Paint, dot}
 
 -- "Records of 12 bytes, no header: three 32-bit numbers."
 abbrev pub stride : ℕ
@@ -26,9 +26,9 @@ bytesOf [] = []
 bytesOf (e ∷ es) = entryBytes (e .first) (e .second) (e .third) ++ bytesOf es
 
 -- "Pixel record: x, y, old pixel; row by row, left to right": of each place, the pixel as it is when its turn comes
-unfoldable pub saved : (width : ℕ) → Paint → List Place → List ℕ → List Entry
+unfoldable pub saved : (width : ℕ) → Paint → List Point → List ℕ → List Entry
 saved width paint [] s = []
-saved width paint (p ∷ ps) s = entry (p .x) (p .y) (getD s (index width (p .x) (p .y)) 0) ∷ saved width paint ps (dot width paint (p .x) (p .y) s)
+saved width paint (p ∷ ps) s = entry (p .x) (p .y) (getD s (pixelIndex width (p .x) (p .y)) 0) ∷ saved width paint ps (dot width paint (p .x) (p .y) s)
 
 -- "Closing record: 0xFFFFFFFF, number of pixel records, record type." No pixel record begins so: no column is as large.
 abbrev pub mark : ℕ

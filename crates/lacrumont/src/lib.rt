@@ -1,10 +1,10 @@
 // The C entry points: include/lacrumont.h documents them. They take every input.
 ghost use mathlib.Core.Path.{_≡_};
-ghost use Rattle.lent.specs.Lent.{lent, outcome};
-ghost use Rattle.lent.specs.Undoing.{undoOf};
+ghost use Rattle.memory.specs.Memory.{memory, outcome};
+ghost use Rattle.memory.specs.Undoing.{undoOf};
 ghost use Rattle.reading.specs.Reading.{readingOf, readPalette};
 ghost use Rattle.lacrumont.specs.Numbers.{asksMask, numbersIn};
-ghost use Rattle.player.specs.Calls.{playWith, play as playing};
+ghost use Rattle.player.specs.Calls.{playWith, playOutcome};
 use meaning::Terms;
 use region::Rectangle;
 
@@ -24,9 +24,9 @@ pub extern "C" fn lacrumont_play(
     brush: u32,
     pixels: &mut u32,
 ) -> u32
-    ensures { λ r. ⌜ outcome r (now (pixels .exit)) (lent (now (surface .exit)) (now (journal .exit)) (now (used .exit)))
-        ≡ playing width height (playWith (now (s .entry)) (record { clip = record { left = left; top = top; right = right; bottom = bottom }; brush = brush }))
-        (lent (now (surface .entry)) (now (journal .entry)) (now (used .entry))) ⌝ }
+    ensures { λ r. ⌜ outcome r (now (pixels .exit)) (memory (now (surface .exit)) (now (journal .exit)) (now (used .exit)))
+        ≡ playOutcome width height (playWith (now (s .entry)) (record { clip = record { left = left; top = top; right = right; bottom = bottom }; brush = brush }))
+        (memory (now (surface .entry)) (now (journal .entry)) (now (used .entry))) ⌝ }
 {
     let clip = Rectangle {
         left,
@@ -38,7 +38,7 @@ pub extern "C" fn lacrumont_play(
     let before = *used;
     let a = player::play(surface, width, height, journal, before, s, terms);
     *used = a.used;
-    *pixels = a.pixels;
+    *pixels = a.number;
     a.status
 }
 
@@ -52,13 +52,13 @@ pub extern "C" fn lacrumont_undo(
     used: &mut u64,
     pixels: &mut u32,
 ) -> u32
-    ensures { λ r. ⌜ outcome r (now (pixels .exit)) (lent (now (surface .exit)) (now (journal .entry)) (now (used .exit)))
-        ≡ undoOf width height (lent (now (surface .entry)) (now (journal .entry)) (now (used .entry))) ⌝ }
+    ensures { λ r. ⌜ outcome r (now (pixels .exit)) (memory (now (surface .exit)) (now (journal .entry)) (now (used .exit)))
+        ≡ undoOf width height (memory (now (surface .entry)) (now (journal .entry)) (now (used .entry))) ⌝ }
 {
     let before = *used;
     let a = player::undo(surface, width, height, journal, before);
     *used = a.used;
-    *pixels = a.pixels;
+    *pixels = a.number;
     a.status
 }
 

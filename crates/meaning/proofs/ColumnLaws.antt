@@ -5,8 +5,8 @@ use Prim.Native.Nat.{ℕ, _+_, _-_, _≤_, _<_}
 use native.Mathlib.Omega.{arith}
 use Rattle.words.specs.Bytes.{negative32, magnitude32}
 use Rattle.words.proofs.ChoiceLaws.{cond-upto}
-use Rattle.pixel.specs.Place.{sourcePlace}
-use Rattle.pixel.proofs.PlaceLaws.{column-lt}
+use Rattle.pixel.specs.Position.{sourcePosition}
+use Rattle.pixel.proofs.PositionLaws.{column-lt}
 use Rattle.meaning.specs.Sampling.{sourceStart, mirrored, sourceColumn}
 
 -- the first column of a source's rectangle
@@ -22,12 +22,12 @@ module _ (x cx m d r : ℕ) (t : Bool) (e : m ≡ magnitude32 cx) (f : t ≡ neg
 
 module _ (x cxSrc cx i start n m : ℕ) (b : Bool) (s : start ≡ sourceStart x cxSrc) (g : b ≡ mirrored cx cxSrc) (p : n ≡ magnitude32 cxSrc)
     (q : m ≡ magnitude32 cx) where
-  pub column-is : (r : ℕ) → r ≡ sourcePlace b i n m → start + r ≡ sourceColumn x cxSrc cx i
+  pub column-is : (r : ℕ) → r ≡ sourcePosition b i n m → start + r ≡ sourceColumn x cxSrc cx i
   unfolding sourceColumn
-  column-is r e = λ t. s t + (e ∙ (λ u. sourcePlace (g u) i (p u) (q u))) t
+  column-is r e = λ t. s t + (e ∙ (λ u. sourcePosition (g u) i (p u) (q u))) t
 
 -- a column of the source's rectangle
-pub place-lt : (b : Bool) (i n m : ℕ) → i < m → 1 ≤ n → sourcePlace b i n m < n
-unfolding sourcePlace
+pub place-lt : (b : Bool) (i n m : ℕ) → i < m → 1 ≤ n → sourcePosition b i n m < n
+unfolding sourcePosition
 place-lt false i n m h l = column-lt h l
 place-lt true i n m h l = omega arith

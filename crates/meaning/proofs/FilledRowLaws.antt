@@ -11,8 +11,8 @@ use Rattle.words.specs.Bytes.{signed32}
 use Rattle.words.specs.Filled.{Filled}
 use Rattle.words.proofs.FillLaws.{filled-by}
 use Rattle.words.proofs.ChoiceLaws.{cond-true, cond-false}
-use Rattle.pixel.specs.Place.{rowLength, remainder, maskPixel}
-use Rattle.pixel.proofs.PlaceLaws.{remainder-lt}
+use Rattle.pixel.specs.Position.{rowLength, remainder, maskPixel}
+use Rattle.pixel.proofs.PositionLaws.{remainder-lt}
 use Rattle.dib.specs.declared.Header.{Header}
 use Rattle.dib.specs.Header.{topDown, rows}
 use Rattle.dib.specs.HeaderStatus.{badFields}

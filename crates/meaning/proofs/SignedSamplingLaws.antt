@@ -12,8 +12,8 @@ use borrow.Author.Tests.{le-ltb, lt-ltb}
 use Rattle.words.specs.Bytes.{signed32}
 use Rattle.words.proofs.ChoiceLaws.{cond-true, cond-false}
 use Rattle.words.proofs.SignedLaws.{twos-complement, plain-size}
-use Rattle.pixel.specs.Place.{remainder, maskPixel, sourcePlace}
-use Rattle.pixel.proofs.PlaceLaws.{remainder-lt, remainder-pos, remainder-neg}
+use Rattle.pixel.specs.Position.{remainder, maskPixel, sourcePosition}
+use Rattle.pixel.proofs.PositionLaws.{remainder-lt, remainder-pos, remainder-neg}
 use Rattle.judge.specs.SignedGeometry.{firstColumn}
 use Rattle.judge.proofs.SignedGeometryLaws.{below-zero}
 use Rattle.meaning.specs.Sampling.{sourceStart, mirrored, sourceColumn}
@@ -51,7 +51,7 @@ start-is (negsuc a) (negsuc b) k p e t = absurd (true≢false t)
 column : (x cxSrc cx i : ℕ) → x < 2 ^ 32 → cxSrc < 2 ^ 32 → cx < 2 ^ 32 → ltZ (firstColumn (signed32 x) (signed32 cxSrc)) (pos 0) ≡ false
     → pos (sourceColumn x cxSrc cx i)
     ≡ firstColumn (signed32 x) (signed32 cxSrc)
-    +ℤ pos (sourcePlace (signsDiffer (signed32 cx) (signed32 cxSrc)) i (natAbs (signed32 cxSrc)) (natAbs (signed32 cx)))
+    +ℤ pos (sourcePosition (signsDiffer (signed32 cx) (signed32 cxSrc)) i (natAbs (signed32 cxSrc)) (natAbs (signed32 cx)))
 unfolding sourceColumn sourceStart
 column x cxSrc cx i hx hs hc t =
     let X = twos-complement x hx in

@@ -10,11 +10,11 @@ use Rattle.region.specs.declared.Target.{Target}
 use Rattle.region.specs.declared.Rectangle.{Rectangle}
 use Rattle.region.specs.Axis.{within}
 use Rattle.region.specs.Written.{rectangleAt}
-use Rattle.region.specs.Target.{targetOf, placesIn}
+use Rattle.region.specs.Target.{targetOf, pointsIn}
 use Rattle.journal.specs.Drawing.{Paint, Work}
-use Rattle.paint.specs.declared.Rule.{Rule}
-use Rattle.paint.specs.declared.Rule.the-variants.{Blend0, Blend1, Raster, Masked}
-use Rattle.paint.specs.Paints.{paintedBy}
+use Rattle.composite.specs.declared.Rule.{Rule}
+use Rattle.composite.specs.declared.Rule.the-variants.{Blend0, Blend1, Raster, Masked}
+use Rattle.composite.specs.Paints.{paintedBy}
 use Rattle.meaning.specs.declared.Terms.{Terms}
 use Rattle.meaning.specs.Sampling.{sourcePixel, maskBit}
 
@@ -72,7 +72,7 @@ targetIn width height k clip = targetOf width height clip (k .bounds) (k .x) (k 
 -- the pixels that a play of it counts, and what each becomes
 unfoldable pub workOf : (width height : ℕ) → Meaning → Terms → Work
 workOf width height k o = record {
-  places = placesIn (targetIn width height k (o .clip));
+  points = pointsIn (targetIn width height k (o .clip));
   paint = paintOn (targetIn width height k (o .clip)) k (o .brush);
   kind = k .kind;
 }

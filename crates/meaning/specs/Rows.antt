@@ -6,7 +6,7 @@ use Prim.Native.Nat.{ℕ, _<_}
 use lib.ListN.{length, getD}
 use Rattle.words.specs.Bytes.{signed32}
 use Rattle.words.specs.Filled.{Filled}
-use Rattle.pixel.specs.Place.{maskPixel}
+use Rattle.pixel.specs.Position.{maskPixel}
 use Rattle.dib.specs.declared.Masks.{Masks}
 use Rattle.dib.specs.Header.{rows}
 use Rattle.sample.specs.Colour.{masksIn}

@@ -4,7 +4,7 @@ use Prim.Native.Nat.{ℕ, _+_, _-_}
 use mathlib.Core.Bool.{Bool, true, false, cond, not}
 use mathlib.Core.List.{List}
 use Rattle.words.specs.Bytes.{negative32, magnitude32, signed32}
-use Rattle.pixel.specs.Place.{sourcePlace, maskPixel}
+use Rattle.pixel.specs.Position.{sourcePosition, maskPixel}
 use Rattle.dib.specs.Header.{rows}
 use Rattle.sample.specs.Stored.{stored1}
 use Rattle.sample.specs.At.{pixelAt}
@@ -24,7 +24,7 @@ mirrored cx cxSrc = cond (negative32 cx) (not (negative32 cxSrc)) (negative32 cx
 
 -- the source's column (or row) that column (or row) i of the target reads, counted from the picture's left (or top)
 unfoldable pub sourceColumn : (x cxSrc cx i : ℕ) → ℕ
-sourceColumn x cxSrc cx i = sourceStart x cxSrc + sourcePlace (mirrored cx cxSrc) i (magnitude32 cxSrc) (magnitude32 cx)
+sourceColumn x cxSrc cx i = sourceStart x cxSrc + sourcePosition (mirrored cx cxSrc) i (magnitude32 cxSrc) (magnitude32 cx)
 
 -- "alpha only under alpha format 1"
 abbrev pub isFormat1 : Action → Bool

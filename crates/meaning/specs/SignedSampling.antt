@@ -7,7 +7,7 @@ use Prim.Native.Nat.{ℕ, _^_, _≤_, _<_}
 use lib.IntN.{ℤ, pos, natAbs, _+ℤ_, _*ℤ_}
 use lib.Signed.{ltZ}
 use Rattle.words.specs.Bytes.{signed32}
-use Rattle.pixel.specs.Place.{sourcePlace, maskPixel}
+use Rattle.pixel.specs.Position.{sourcePosition, maskPixel}
 use Rattle.judge.specs.SignedGeometry.{firstColumn}
 use Rattle.meaning.specs.Sampling.{mirrored, sourceColumn}
 
@@ -29,6 +29,6 @@ pub record SaysSampling : Type 0 where
       → ltZ (firstColumn (signed32 x) (signed32 cxSrc)) (pos 0) ≡ false
       → pos (sourceColumn x cxSrc cx i)
       ≡ firstColumn (signed32 x) (signed32 cxSrc)
-      +ℤ pos (sourcePlace (signsDiffer (signed32 cx) (signed32 cxSrc)) i (natAbs (signed32 cxSrc)) (natAbs (signed32 cx)))
+      +ℤ pos (sourcePosition (signsDiffer (signed32 cx) (signed32 cxSrc)) i (natAbs (signed32 cxSrc)) (natAbs (signed32 cx)))
   -- "at (xMask + i) .., each taken as the least non-negative remainder by the mask's width and height"
   pub mask : (xMask : ℤ) (i width : ℕ) → 1 ≤ width → LeastRemainder (xMask +ℤ pos i) width (maskPixel xMask i width)

@@ -4,7 +4,7 @@ ghost use Prim.Native.Nat.{_+_, _^_, _≤_, _<_};
 ghost use lib.ListN.{length};
 ghost use Rattle.words.specs.Bytes.{magnitude32, signed32};
 ghost use Rattle.words.specs.Filled.{Filled};
-ghost use Rattle.pixel.specs.Place.{maskPixel};
+ghost use Rattle.pixel.specs.Position.{maskPixel};
 ghost use Rattle.meaning.specs.Sampling.{sourceStart, mirrored, sourceColumn};
 
 fn source_start(x: u32, source: u32) -> u32
@@ -31,7 +31,7 @@ pub fn source_column(x: u32, source: u32, target: u32, i: u32) -> u32
     let turned = is_mirrored(target, source);
     let n = words::magnitude(source);
     let m = words::magnitude(target);
-    start + pixel::place::source_place(turned, i, n, m)
+    start + pixel::position::source_position(turned, i, n, m)
 }
 
 // The columns of the source that the target's columns from `index` on read.
@@ -52,7 +52,7 @@ pub fn mask_column(corner: u32, i: u32, extent: u32) -> u32
     requires { ⌜ 1 ≤ extent ⌝ }
     ensures { λ r. ⌜ r ≡ maskPixel (signed32 corner) i extent ⌝ }
 {
-    pixel::place::mask_pixel(words::signed(corner), i, extent)
+    pixel::position::mask_pixel(words::signed(corner), i, extent)
 }
 
 // The columns of the mask that the target's columns from `index` on read.

@@ -4,8 +4,8 @@ ghost use mathlib.Core.Path.{_≡_};
 ghost use Prim.Native.Nat.{_^_, _<_};
 ghost use Rattle.meaning.specs.Sampling.{isFormat1};
 ghost use Rattle.meaning.specs.Meaning.{ruleOf, termsAt};
+use composite::Rule;
 use judge::Action;
-use paint::Rule;
 use region::Rectangle;
 
 pub mod columns;

@@ -5,7 +5,7 @@ use mathlib.Core.List.{List}
 use Prim.Native.Nat.{ℕ, _+_, _*_, _≤_, _<_}
 use native.Mathlib.Omega.{arith}
 use lib.ListN.{length, length-take, length-drop}
-use Rattle.pixel.specs.Place.{rowLength}
+use Rattle.pixel.specs.Position.{rowLength}
 use Rattle.dib.specs.Header.{rows}
 use Rattle.sample.proofs.AtLaws.{row-in}
 use Rattle.judge.specs.declared.Picture.{Picture}

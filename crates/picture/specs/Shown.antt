@@ -4,7 +4,7 @@ use Prim.Native.Nat.{ℕ}
 use mathlib.Core.List.{List}
 use lib.ListN.{drop, replicate}
 use lib.Dec.{leb}
-use Rattle.pixel.specs.Place.{rowLength}
+use Rattle.pixel.specs.Position.{rowLength}
 use Rattle.dib.specs.declared.Header.{Header}
 use Rattle.dib.specs.Header.{tableStart, entries, topDown, rows}
 use Rattle.sample.specs.Palette.{paletteOf}

@@ -73,7 +73,7 @@ pub fn row(s: &[u8], p: Picture, row: u32) -> &[u8]
 {
     let h = p.header;
     let bytes = bits_part(s, p);
-    let long = pixel::place::row_length(h.width, h.bits) as usize;
+    let long = pixel::position::row_length(h.width, h.bits) as usize;
     let k = sample::stored::row_at(dib::is_top_down(h), words::magnitude(h.height), row);
     sample::stored::row_bytes(bytes, long, k as usize)
 }

@@ -11,10 +11,10 @@ use Rattle.emr.specs.Fixed.{fieldsAt}
 use Rattle.judge.specs.Record.{recordOf}
 use Rattle.region.specs.declared.Target.{Target}
 use Rattle.region.specs.declared.Rectangle.{Rectangle}
-use Rattle.region.specs.Target.{placesIn}
+use Rattle.region.specs.Target.{pointsIn}
 use Rattle.region.specs.Exact.{Covers, Words, Exact}
 use Rattle.region.proofs.ExactLaws.{exact}
-use Rattle.region.proofs.TargetLaws.{On, inside, length-places}
+use Rattle.region.proofs.TargetLaws.{On, inside, length-points}
 use Rattle.journal.specs.Drawing.{Paint, drawn}
 use Rattle.journal.proofs.PointwiseLaws.{drawn-inside, drawn-outside, saved-before}
 use Rattle.meaning.specs.Meaning.{Meaning, meaningOf, paintOn, targetIn, workOf}
@@ -23,17 +23,17 @@ use Rattle.player.specs.Pixels.{Bytes, pixel, PixelByPixel}
 
 -- a target on the surface, drawn by any rule
 module _ (w h : ℕ) (f : Paint) (t : Target) (on : On w (t .columns) × On h (t .rows)) (s : List ℕ) where
-  covered : length s ≡ w * h → (x y : ℕ) → Covers t x y → pixel w (drawn w f (placesIn t) s) x y ≡ f (pixel w s x y) x y
+  covered : length s ≡ w * h → (x y : ℕ) → Covers t x y → pixel w (drawn w f (pointsIn t) s) x y ≡ f (pixel w s x y) x y
   covered e x y c =
       let a : t .columns .at + (x - t .columns .at) ≡ x = omega (arith, c .column-in .left) in
       let b : t .rows .at + (y - t .rows .at) ≡ y = omega (arith, c .row-in .left) in
       let m : (t .rows .at + t .rows .count) * w ≤ h * w = mul-le-mul-right w (on .1 .ends (omega (arith, c .row-in .left, c .row-in .right))) in
-      subst (λ (y : ℕ). pixel w (drawn w f (placesIn t) s) x y ≡ f (pixel w s x y) x y) b
-      (subst (λ (x : ℕ). pixel w (drawn w f (placesIn t) s) x (t .rows .at + (y - t .rows .at)) ≡ f (pixel w s x (t .rows .at + (y - t .rows .at))) x (t .rows .at + (y - t .rows .at))) a
+      subst (λ (y : ℕ). pixel w (drawn w f (pointsIn t) s) x y ≡ f (pixel w s x y) x y) b
+      (subst (λ (x : ℕ). pixel w (drawn w f (pointsIn t) s) x (t .rows .at + (y - t .rows .at)) ≡ f (pixel w s x (t .rows .at + (y - t .rows .at))) x (t .rows .at + (y - t .rows .at))) a
       (drawn-inside w f (t .columns .at) (t .columns .count) (t .rows .at) (t .rows .count) (x - t .columns .at) (y - t .rows .at) s
       (omega (arith, c .column-in .left, c .column-in .right)) (omega (arith, c .row-in .left, c .row-in .right)) (on .0 .ends (omega (arith, c .column-in .left, c .column-in .right))) (omega (arith, m, e, mul-comm h w))))
 
-  not-covered : (x y : ℕ) → x < w → (Covers t x y → ⊥) → pixel w (drawn w f (placesIn t) s) x y ≡ pixel w s x y
+  not-covered : (x y : ℕ) → x < w → (Covers t x y → ⊥) → pixel w (drawn w f (pointsIn t) s) x y ≡ pixel w s x y
   not-covered x y l g =
       drawn-outside w f x y l (t .columns .at) (t .columns .count) (t .rows .at) (t .rows .count) s (on .0 .ends)
       (λ a b c d. g (record { column-in = record { left = c; right = d }; row-in = record { left = a; right = b } }))
@@ -58,5 +58,5 @@ pixel-by-pixel w h p s e =
       target = target-exact w h (p .bytes) (p .terms .clip);
       outside = not-covered w h f t on s;
       records = saved-before w f (t .columns .at) (t .columns .count) (t .rows .at) (t .rows .count) s (on .0 .ends);
-      count = length-places t;
+      count = length-points t;
     }

@@ -21,52 +21,52 @@ use Rattle.judge.proofs.CheckLaws.{check-number}
 use Rattle.judge.proofs.AcceptedLaws.{accepted as accepted-is}
 use Rattle.region.specs.declared.Target.{Target}
 use Rattle.region.specs.declared.Rectangle.{Rectangle}
-use Rattle.region.specs.Target.{placesIn, targetOf}
-use Rattle.region.proofs.TargetLaws.{On, inside, length-places}
+use Rattle.region.specs.Target.{pointsIn, targetOf}
+use Rattle.region.proofs.TargetLaws.{On, inside, length-points}
 use Rattle.journal.specs.Drawing.{Work, drawn}
-use Rattle.journal.specs.Records.{stride, entryBytes, bytesOf, saved, closing}
+use Rattle.journal.specs.Records.{mark, stride, entryBytes, bytesOf, saved, closing}
 use Rattle.journal.proofs.RecordLaws.{length-bytes, bytes-append, length-saved}
-use Rattle.lent.specs.Lent.{lent, Outcome, outcome, settle, limits}
-use Rattle.lent.specs.Playing.{counted, drawnBy, appended, played, roomStatus, playOf}
-use Rattle.lent.proofs.LimitLaws.{passed}
+use Rattle.memory.specs.Memory.{memory, Outcome, outcome, settle, limits}
+use Rattle.memory.specs.Playing.{counted, drawnBy, appended, played, fullStatus, playOf}
+use Rattle.memory.proofs.LimitLaws.{passed}
 use Rattle.meaning.specs.declared.Terms.{Terms}
 use Rattle.meaning.specs.Meaning.{meaningIn, meaningOf, paintOn, workOf}
 use Rattle.draw.specs.declared.Plan.{Plan}
 use Rattle.draw.specs.Ready.{Drawn}
 use Rattle.player.specs.declared.Answer.{Answer}
-use Rattle.player.specs.Calls.{playWith, work, play, accepted}
-use Rattle.player.specs.Left.{left, refusal}
+use Rattle.player.specs.Calls.{playWith, work, playOutcome, acceptedOutcome}
+use Rattle.player.specs.Outcome.{outcomeOf, refusedAnswer}
 
 -- ---- whatever is drawn
 
 module _ (w : ℕ) (k : Work) (s j : List ℕ) (u p : ℕ) (e : counted k ≡ p) where
-  no-room : length j / stride - u < p + 1 → outcome 14 0 (lent s j u) ≡ accepted w k (lent s j u)
-  unfolding roomStatus
-  no-room l = ap (λ (r : ℕ). settle r (lent s j u) (outcome 0 (counted k) (played w k (lent s j u))))
+  no-room : length j / stride - u < p + 1 → outcome 14 0 (memory s j u) ≡ acceptedOutcome w k (memory s j u)
+  unfolding fullStatus
+  no-room l = ap (λ (r : ℕ). settle r (memory s j u) (outcome 0 (counted k) (played w k (memory s j u))))
       (sym (cond-true (ltb (length j / stride - u) (counted k + 1)) 14 0 (lt-ltb (length j / stride - u) (counted k + 1) (omega (arith, e)))))
 
   -- the pixels' records, and the closing one behind them
-  journal-is : (j1 j2 : List ℕ) → j1 ≡ sets j (u * stride) (bytesOf (saved w (k .paint) (k .places) s))
-      → j2 ≡ sets j1 ((u + p) * stride) (entryBytes 0xFFFFFFFF p (k .kind)) → j2 ≡ sets j (u * stride) (bytesOf (appended w k s))
+  journal-is : (j1 j2 : List ℕ) → j1 ≡ sets j (u * stride) (bytesOf (saved w (k .paint) (k .points) s))
+      → j2 ≡ sets j1 ((u + p) * stride) (entryBytes mark p (k .kind)) → j2 ≡ sets j (u * stride) (bytesOf (appended w k s))
   unfolding appended bytesOf
   journal-is j1 j2 q r =
-      let b : List ℕ = bytesOf (saved w (k .paint) (k .places) s) in
+      let b : List ℕ = bytesOf (saved w (k .paint) (k .points) s) in
       let n : length b ≡ p * stride =
-      length-bytes (saved w (k .paint) (k .places) s) ∙ ap (λ (m : ℕ). m * stride) (length-saved w (k .paint) (k .places) s ∙ e) in
-      r ∙ (λ t. sets (q t) ((u + p) * stride) (entryBytes 0xFFFFFFFF (sym e t) (k .kind)))
-      ∙ sym (sets-append j (u * stride) ((u + p) * stride) b (entryBytes 0xFFFFFFFF (counted k) (k .kind)) (omega (arith, n)))
+      length-bytes (saved w (k .paint) (k .points) s) ∙ ap (λ (m : ℕ). m * stride) (length-saved w (k .paint) (k .points) s ∙ e) in
+      r ∙ (λ t. sets (q t) ((u + p) * stride) (entryBytes mark (sym e t) (k .kind)))
+      ∙ sym (sets-append j (u * stride) ((u + p) * stride) b (entryBytes mark (counted k) (k .kind)) (omega (arith, n)))
       ∙ ap (sets j (u * stride))
-      (ap (λ (l : List ℕ). b ++ l) (sym (append-nil (entryBytes 0xFFFFFFFF (counted k) (k .kind))))
-      ∙ sym (bytes-append (saved w (k .paint) (k .places) s) (closing (counted k) (k .kind) ∷ [])))
+      (ap (λ (l : List ℕ). b ++ l) (sym (append-nil (entryBytes mark (counted k) (k .kind))))
+      ∙ sym (bytes-append (saved w (k .paint) (k .points) s) (closing (counted k) (k .kind) ∷ [])))
 
   drawn-is : p + 1 ≤ length j / stride - u → (s1 j1 j2 : List ℕ) → s1 ≡ drawnBy w k s
-      → j1 ≡ sets j (u * stride) (bytesOf (saved w (k .paint) (k .places) s)) → j2 ≡ sets j1 ((u + p) * stride) (entryBytes 0xFFFFFFFF p (k .kind))
-      → outcome 0 p (lent s1 j2 (u + p + 1)) ≡ accepted w k (lent s j u)
-  unfolding roomStatus played
+      → j1 ≡ sets j (u * stride) (bytesOf (saved w (k .paint) (k .points) s)) → j2 ≡ sets j1 ((u + p) * stride) (entryBytes mark p (k .kind))
+      → outcome 0 p (memory s1 j2 (u + p + 1)) ≡ acceptedOutcome w k (memory s j u)
+  unfolding fullStatus played
   drawn-is l s1 j1 j2 es ej ek =
       let n : u + p + 1 ≡ u + (counted k + 1) = omega (arith, e) in
-      (λ t. outcome 0 (sym e t) (lent (es t) (journal-is j1 j2 ej ek t) (n t)))
-      ∙ ap (λ (r : ℕ). settle r (lent s j u) (outcome 0 (counted k) (played w k (lent s j u))))
+      (λ t. outcome 0 (sym e t) (memory (es t) (journal-is j1 j2 ej ek t) (n t)))
+      ∙ ap (λ (r : ℕ). settle r (memory s j u) (outcome 0 (counted k) (played w k (memory s j u))))
       (sym (cond-false (ltb (length j / stride - u) (counted k + 1)) 14 0 (le-ltb (length j / stride - u) (counted k + 1) (omega (arith, e)))))
 
 -- ---- an accepted record
@@ -84,30 +84,30 @@ pixels-few w h a b u clip n t f e =
 module _ (w h : ℕ) (s j : List ℕ) (u : ℕ) (r : List ℕ) (n : Record) (o : Terms) (t : Target)
     (f : limits w h (length s) (length j) u ≡ 0) (e : t ≡ targetOf w h (o .clip) (n .bounds) (n .x) (n .y) (n .cx) (n .cy)) where
   abbrev workOn : Target → Work
-  workOn t = record { places = placesIn t; paint = paintOn t (meaningIn r n) (o .brush); kind = n .kind }
+  workOn t = record { points = pointsIn t; paint = paintOn t (meaningIn r n) (o .brush); kind = n .kind }
 
   work-is : workOn t ≡ workOf w h (meaningIn r n) o
   unfolding workOf
   work-is = ap workOn e
 
   count-is : counted (workOn t) ≡ t .columns .count * t .rows .count
-  count-is = length-places t ∙ mul-comm (t .rows .count) (t .columns .count)
+  count-is = length-points t ∙ mul-comm (t .rows .count) (t .columns .count)
 
-  pub play-full : (a : Answer) → length j / stride - u < t .columns .count * t .rows .count + 1 → a ≡ refusal 14 u
-      → left a s j ≡ accepted w (workOf w h (meaningIn r n) o) (lent s j u)
+  pub play-full : (a : Answer) → length j / stride - u < t .columns .count * t .rows .count + 1 → a ≡ refusedAnswer 14 u
+      → outcomeOf a s j ≡ acceptedOutcome w (workOf w h (meaningIn r n) o) (memory s j u)
   play-full a l q =
-      ap (λ (a : Answer). left a s j) q ∙ no-room w (workOn t) s j u _ count-is l ∙ ap (λ (k : Work). accepted w k (lent s j u)) work-is
+      ap (λ (a : Answer). outcomeOf a s j) q ∙ no-room w (workOn t) s j u _ count-is l ∙ ap (λ (k : Work). acceptedOutcome w k (memory s j u)) work-is
 
   -- the rows are drawn by the plan that the code makes
   abbrev plan : Plan
   plan = record { width = w; at = u; «record» = n; target = t; brush = o .brush }
 
   pub play-drawn : t .columns .count * t .rows .count + 1 ≤ length j / stride - u → (s1 j1 j2 : List ℕ) → Drawn r plan s j s1 j1
-      → j2 ≡ sets j1 ((u + t .columns .count * t .rows .count) * stride) (entryBytes 0xFFFFFFFF (t .columns .count * t .rows .count) (n .kind))
-      → outcome 0 (t .columns .count * t .rows .count) (lent s1 j2 (u + t .columns .count * t .rows .count + 1))
-      ≡ accepted w (workOf w h (meaningIn r n) o) (lent s j u)
+      → j2 ≡ sets j1 ((u + t .columns .count * t .rows .count) * stride) (entryBytes mark (t .columns .count * t .rows .count) (n .kind))
+      → outcome 0 (t .columns .count * t .rows .count) (memory s1 j2 (u + t .columns .count * t .rows .count + 1))
+      ≡ acceptedOutcome w (workOf w h (meaningIn r n) o) (memory s j u)
   play-drawn l s1 j1 j2 rows ek =
-      drawn-is w (workOn t) s j u _ count-is l s1 j1 j2 (rows .0) (rows .1) ek ∙ ap (λ (k : Work). accepted w k (lent s j u)) work-is
+      drawn-is w (workOn t) s j u _ count-is l s1 j1 j2 (rows .0) (rows .1) ek ∙ ap (λ (k : Work). acceptedOutcome w k (memory s j u)) work-is
 
 -- ---- the whole play
 
@@ -122,39 +122,39 @@ refused-some k (suc status) n e = let q = ap statusIn e in (sym q, λ z. omega (
 
 module _ (w h : ℕ) (s j : List ℕ) (u : ℕ) (r : List ℕ) (o : Terms) where
   -- the play by the statuses of the lent memory and of the record
-  abbrev settledBy : (memory reading : ℕ) → Outcome
-  settledBy memory reading =
-      settle (orElse memory (orElse reading (roomStatus (work w h (playWith r o)) (lent s j u)))) (lent s j u)
-      (outcome 0 (counted (work w h (playWith r o))) (played w (work w h (playWith r o)) (lent s j u)))
+  abbrev settledBy : (limit reading : ℕ) → Outcome
+  settledBy limit reading =
+      settle (orElse limit (orElse reading (fullStatus (work w h (playWith r o)) (memory s j u)))) (memory s j u)
+      (outcome 0 (counted (work w h (playWith r o))) (played w (work w h (playWith r o)) (memory s j u)))
 
-  by-memory : (k reading : ℕ) → (k ≡ 0 → ⊥) → outcome k 0 (lent s j u) ≡ settledBy k reading
+  by-memory : (k reading : ℕ) → (k ≡ 0 → ⊥) → outcome k 0 (memory s j u) ≡ settledBy k reading
   by-memory zero reading z = absurd (z refl)
   by-memory (suc k) reading z = refl
 
-  by-reading : (k : ℕ) → (k ≡ 0 → ⊥) → outcome k 0 (lent s j u) ≡ settledBy 0 k
+  by-reading : (k : ℕ) → (k ≡ 0 → ⊥) → outcome k 0 (memory s j u) ≡ settledBy 0 k
   by-reading zero z = absurd (z refl)
   by-reading (suc k) z = refl
 
-  play-is : settledBy (limits w h (length s) (length j) u) (statusOf r) ≡ play w h (playWith r o) (lent s j u)
-  unfolding play playOf
+  play-is : settledBy (limits w h (length s) (length j) u) (statusOf r) ≡ playOutcome w h (playWith r o) (memory s j u)
+  unfolding playOutcome playOf
   play-is = refl
 
   module _ (b : ℕ) (eb : b ≡ limits w h (length s) (length j) u) where
-    pub play-limits : (a : Answer) → (b ≡ 0 → ⊥) → a ≡ refusal b u → left a s j ≡ play w h (playWith r o) (lent s j u)
+    pub play-limits : (a : Answer) → (b ≡ 0 → ⊥) → a ≡ refusedAnswer b u → outcomeOf a s j ≡ playOutcome w h (playWith r o) (memory s j u)
     play-limits a z q =
-        ap (λ (a : Answer). left a s j) q ∙ by-memory b (statusOf r) z ∙ ap (λ (k : ℕ). settledBy k (statusOf r)) eb ∙ play-is
+        ap (λ (a : Answer). outcomeOf a s j) q ∙ by-memory b (statusOf r) z ∙ ap (λ (k : ℕ). settledBy k (statusOf r)) eb ∙ play-is
 
     module _ (z : b ≡ 0) (v : Checked) (ev : v ≡ checkOf r) where
-      pub play-refused : (k : ℕ) (a : Answer) → v ≡ Refused k → a ≡ refusal k u → left a s j ≡ play w h (playWith r o) (lent s j u)
+      pub play-refused : (k : ℕ) (a : Answer) → v ≡ Refused k → a ≡ refusedAnswer k u → outcomeOf a s j ≡ playOutcome w h (playWith r o) (memory s j u)
       unfolding checkOf
       play-refused k a q p =
           let some = refused-some k (statusOf r) (recordOf r) (sym q ∙ ev) in
-          ap (λ (a : Answer). left a s j) p ∙ by-reading k (some .1) ∙ ap₂ settledBy (sym z ∙ eb) (sym (some .0)) ∙ play-is
+          ap (λ (a : Answer). outcomeOf a s j) p ∙ by-reading k (some .1) ∙ ap₂ settledBy (sym z ∙ eb) (sym (some .0)) ∙ play-is
 
-      pub play-accepted : (n : Record) (r′ : Outcome) → v ≡ Accepted n → r′ ≡ accepted w (workOf w h (meaningIn r n) o) (lent s j u)
-          → r′ ≡ play w h (playWith r o) (lent s j u)
+      pub play-accepted : (n : Record) (r′ : Outcome) → v ≡ Accepted n → r′ ≡ acceptedOutcome w (workOf w h (meaningIn r n) o) (memory s j u)
+          → r′ ≡ playOutcome w h (playWith r o) (memory s j u)
       unfolding work meaningOf
       play-accepted n r′ q p =
           let m : n ≡ recordOf r = accepted-is r n (sym q ∙ ev) .0 in
           let x : 0 ≡ statusOf r = ap statusIn (sym q ∙ ev) ∙ check-number r in
-          p ∙ ap (λ (n : Record). accepted w (workOf w h (meaningIn r n) o) (lent s j u)) m ∙ ap₂ settledBy (sym z ∙ eb) x ∙ play-is
+          p ∙ ap (λ (n : Record). acceptedOutcome w (workOf w h (meaningIn r n) o) (memory s j u)) m ∙ ap₂ settledBy (sym z ∙ eb) x ∙ play-is

@@ -10,15 +10,15 @@ use Rattle.pixel.specs.Raster.{rasterPixel}
 use Rattle.pixel.proofs.RasterLaws.{raster-lt}
 use Rattle.region.specs.declared.Target.{Target}
 use Rattle.region.specs.Axis.{within}
-use Rattle.region.specs.Target.{row, block, placesIn}
+use Rattle.region.specs.Target.{row, block, pointsIn}
 use Rattle.region.proofs.TargetLaws.{On, inside}
 use Rattle.journal.specs.All.{All}
 pub use Rattle.journal.proofs.UndoLaws.{OnSurface}
 use Rattle.journal.proofs.UndoLaws.{Word}
 use Rattle.journal.proofs.PointwiseLaws.{all-append}
-use Rattle.paint.specs.declared.Rule.{Rule}
-use Rattle.paint.specs.declared.Rule.the-variants.{Blend0, Blend1, Raster, Masked}
-use Rattle.paint.specs.Paints.{paintedBy}
+use Rattle.composite.specs.declared.Rule.{Rule}
+use Rattle.composite.specs.declared.Rule.the-variants.{Blend0, Blend1, Raster, Masked}
+use Rattle.composite.specs.Paints.{paintedBy}
 use Rattle.meaning.specs.Meaning.{Meaning, meaningOf, paintOn, targetIn, workOf}
 use Rattle.player.specs.Calls.{Play, work}
 
@@ -39,12 +39,12 @@ block-on w h x n y (suc m) across down =
     all-append (OnSurface w h) (row x n y) (block x n (suc y) m) (row-on w h x n y across (omega arith))
     (block-on w h x n (suc y) m across (λ k. omega arith))
 
-target-on : (w h : ℕ) (t : Target) → On w (t .columns) × On h (t .rows) → All (OnSurface w h) (placesIn t)
+target-on : (w h : ℕ) (t : Target) → On w (t .columns) × On h (t .rows) → All (OnSurface w h) (pointsIn t)
 target-on w h t on = block-on w h (t .columns .at) (t .columns .count) (t .rows .at) (t .rows .count) (on .0 .ends) (on .1 .ends)
 
-pub places-on : (w h : ℕ) (p : Play) → All (OnSurface w h) (work w h p .places)
+pub points-on : (w h : ℕ) (p : Play) → All (OnSurface w h) (work w h p .points)
 unfolding work workOf
-places-on w h p =
+points-on w h p =
     let k : Meaning = meaningOf (p .bytes) in
     target-on w h (targetIn w h k (p .terms .clip)) (inside w h (p .terms .clip) (k .bounds) (k .x) (k .y) (k .cx) (k .cy))
 

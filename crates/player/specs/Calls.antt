@@ -3,8 +3,8 @@ use Prim.Native.Nat.{ℕ}
 use mathlib.Core.List.{List}
 use Rattle.meaning.specs.declared.Terms.{Terms}
 use Rattle.journal.specs.Drawing.{Work}
-use Rattle.lent.specs.Lent.{Lent, Outcome, outcome, settle}
-use Rattle.lent.specs.Playing.{counted, played, roomStatus, playOf}
+use Rattle.memory.specs.Memory.{Memory, Outcome, outcome, settle}
+use Rattle.memory.specs.Playing.{counted, played, fullStatus, playOf}
 use Rattle.judge.specs.Check.{statusOf}
 use Rattle.meaning.specs.Meaning.{meaningOf, workOf}
 
@@ -21,9 +21,9 @@ unfoldable pub work : (width height : ℕ) → Play → Work
 work width height p = workOf width height (meaningOf (p .bytes)) (p .terms)
 
 -- the statuses of the lent memory, then those of the record, then 14; else the play drawn and journalled
-unfoldable pub play : (width height : ℕ) → Play → Lent → Outcome
-play width height p m = playOf width height (statusOf (p .bytes)) (work width height p) m
+unfoldable pub playOutcome : (width height : ℕ) → Play → Memory → Outcome
+playOutcome width height p m = playOf width height (statusOf (p .bytes)) (work width height p) m
 
 -- the play of a record that was read and accepted, on memory that passed: 14, or drawn and journalled
-abbrev pub accepted : (width : ℕ) → Work → Lent → Outcome
-accepted width k m = settle (roomStatus k m) m (outcome 0 (counted k) (played width k m))
+abbrev pub acceptedOutcome : (width : ℕ) → Work → Memory → Outcome
+acceptedOutcome width k m = settle (fullStatus k m) m (outcome 0 (counted k) (played width k m))

@@ -1,3 +1,3 @@
-pub mod Left
+pub mod Outcome
 pub mod Calls
 pub mod Pixels

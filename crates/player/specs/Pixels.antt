@@ -6,12 +6,12 @@ use lib.ListN.{length, getD}
 use Rattle.region.specs.declared.Target.{Target}
 use Rattle.words.specs.Bytes.{byteAt}
 use Rattle.region.specs.Axis.{within}
-use Rattle.region.specs.Target.{Place}
+use Rattle.region.specs.Target.{Point}
 use Rattle.region.specs.Exact.{Covers, Words, Exact}
-use Rattle.journal.specs.Drawing.{index}
+use Rattle.journal.specs.Drawing.{pixelIndex}
 use Rattle.journal.specs.Records.{entry, saved}
-use Rattle.lent.specs.Playing.{counted, drawnBy}
-use Rattle.paint.specs.Paints.{paintedBy}
+use Rattle.memory.specs.Playing.{counted, drawnBy}
+use Rattle.composite.specs.Paints.{paintedBy}
 use Rattle.meaning.specs.Meaning.{Meaning, meaningOf, targetIn}
 use Rattle.player.specs.Calls.{Play, work}
 
@@ -21,7 +21,7 @@ Bytes s = (k : ℕ) → byteAt s k < 256
 
 -- the pixel at column x and row y of a surface of this width
 abbrev pub pixel : (width : ℕ) → List ℕ → (x y : ℕ) → ℕ
-pixel width s x y = getD s (index width x y) 0
+pixel width s x y = getD s (pixelIndex width x y) 0
 
 -- the play p on the surface s, whose record means k and whose clipped target is t
 pub record Pixels (width height : ℕ) (p : Play) (s : List ℕ) (k : Meaning) (t : Target) : Type 0 where
@@ -35,8 +35,8 @@ pub record Pixels (width height : ℕ) (p : Play) (s : List ℕ) (k : Meaning) (
   -- "changes no other"
   pub outside : (x y : ℕ) → x < width → (Covers t x y → ⊥) → pixel width (drawnBy width (work width height p) s) x y ≡ pixel width s x y
   -- each journal record holds the pixel of the surface before the play
-  pub records : saved width (work width height p .paint) (work width height p .places) s
-      ≡ map (λ (q : Place). entry (q .x) (q .y) (pixel width s (q .x) (q .y))) (work width height p .places)
+  pub records : saved width (work width height p .paint) (work width height p .points) s
+      ≡ map (λ (q : Point). entry (q .x) (q .y) (pixel width s (q .x) (q .y))) (work width height p .points)
   -- "answers how many there were"
   pub count : counted (work width height p) ≡ t .rows .count * t .columns .count
 

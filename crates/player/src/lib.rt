@@ -2,30 +2,30 @@
 ghost use mathlib.Core.Path.{_≡_};
 ghost use lib.ListN.{length};
 ghost use Rattle.judge.specs.Good.{Good};
-ghost use Rattle.lent.specs.Lent.{lent, limits};
-ghost use Rattle.lent.specs.Undoing.{undoOf};
+ghost use Rattle.memory.specs.Memory.{memory, limits};
+ghost use Rattle.memory.specs.Undoing.{undoOf};
 ghost use Rattle.meaning.specs.Meaning.{meaningIn, workOf};
-ghost use Rattle.player.specs.Calls.{playWith, play as playing, accepted as acceptedOf};
-ghost use Rattle.player.specs.Left.{left, refusal};
+ghost use Rattle.player.specs.Calls.{playWith, playOutcome, acceptedOutcome};
+ghost use Rattle.player.specs.Outcome.{outcomeOf, refusedAnswer};
 use draw::Plan;
 use judge::Checked;
 use judge::Record;
 use meaning::Terms;
 
-// A call's answer: its status, its number of pixels, and the journal's records in use from now on.
+// A call's answer: its status, its number (of pixels drawn or restored), and the journal's records in use from now on.
 pub struct Answer {
     pub status: u32,
-    pub pixels: u32,
+    pub number: u32,
     pub used: u64,
 }
 
 // The answer of a refused call.
 fn refused(status: u32, used: u64) -> Answer
-    ensures { λ r. ⌜ r ≡ refusal status used ⌝ }
+    ensures { λ r. ⌜ r ≡ refusedAnswer status used ⌝ }
 {
     Answer {
         status: status,
-        pixels: 0,
+        number: 0,
         used: used,
     }
 }
@@ -42,7 +42,7 @@ fn accepted(
     terms: Terms,
 ) -> Answer
     requires { ⌜ (limits width height (length (now surface)) (length (now journal)) used ≡ 0) × Good (length (now s)) rec ⌝ }
-    ensures { λ r. ⌜ left r (now (surface .exit)) (now (journal .exit)) ≡ acceptedOf width (workOf width height (meaningIn (now (s .entry)) rec) terms) (lent (now (surface .entry)) (now (journal .entry)) used) ⌝ }
+    ensures { λ r. ⌜ outcomeOf r (now (surface .exit)) (now (journal .exit)) ≡ acceptedOutcome width (workOf width height (meaningIn (now (s .entry)) rec) terms) (memory (now (surface .entry)) (now (journal .entry)) used) ⌝ }
 {
     let bounds = rec.bounds;
     let clip = terms.clip;
@@ -65,7 +65,7 @@ fn accepted(
     journal::put(journal, closing, journal::MARK, pixels as u32, rec.kind);
     Answer {
         status: 0,
-        pixels: pixels as u32,
+        number: pixels as u32,
         used: used + pixels + 1,
     }
 }
@@ -80,9 +80,9 @@ pub fn play(
     s: &[u8],
     terms: Terms,
 ) -> Answer
-    ensures { λ r. ⌜ left r (now (surface .exit)) (now (journal .exit)) ≡ playing width height (playWith (now (s .entry)) terms) (lent (now (surface .entry)) (now (journal .entry)) used) ⌝ }
+    ensures { λ r. ⌜ outcomeOf r (now (surface .exit)) (now (journal .exit)) ≡ playOutcome width height (playWith (now (s .entry)) terms) (memory (now (surface .entry)) (now (journal .entry)) used) ⌝ }
 {
-    let status = lent::status(width, height, surface.len(), journal.len(), used);
+    let status = memory::status(width, height, surface.len(), journal.len(), used);
     if status != 0 {
         return refused(status, used);
     }
@@ -95,9 +95,9 @@ pub fn play(
 
 // Undoes the last play. All its records are tested before one pixel is restored: a refused undo changes nothing.
 pub fn undo(surface: &mut [u32], width: u32, height: u32, journal: &[u8], used: u64) -> Answer
-    ensures { λ r. ⌜ left r (now (surface .exit)) (now (journal .entry)) ≡ undoOf width height (lent (now (surface .entry)) (now (journal .entry)) used) ⌝ }
+    ensures { λ r. ⌜ outcomeOf r (now (surface .exit)) (now (journal .entry)) ≡ undoOf width height (memory (now (surface .entry)) (now (journal .entry)) used) ⌝ }
 {
-    let status = lent::status(width, height, surface.len(), journal.len(), used);
+    let status = memory::status(width, height, surface.len(), journal.len(), used);
     if status != 0 {
         return refused(status, used);
     }
@@ -126,7 +126,7 @@ pub fn undo(surface: &mut [u32], width: u32, height: u32, journal: &[u8], used: 
     );
     Answer {
         status: 0,
-        pixels: named,
+        number: named,
         used: from,
     }
 }

@@ -7,14 +7,14 @@ use native.Mathlib.Omega.{arith}
 use lib.ListN.{length, getD, take, drop, length-take, length-drop, List·getD-append}
 use lib.Seq.{length-take-le, getD-take}
 use Rattle.words.specs.Filled.{Filled}
-use Rattle.replay.specs.declared.input.Place.{Place}
+use Rattle.replay.specs.declared.input.Cursor.{Cursor}
 use Rattle.replay.specs.Ready.{Held, Unread}
 
-abbrev pub front : Place → (read : ℕ) (more : Bool) → Place
+abbrev pub front : Cursor → (read : ℕ) (more : Bool) → Cursor
 front p read more = record { at = 0; end = p .end - p .at + read; more = more; good = p .good }
 
 -- b with what was left at p moved to its front is d, and the bytes ys were read behind
-module _ (p : Place) (b d ys : List ℕ) (read : ℕ) (more : Bool) (held : Held p (length b))
+module _ (p : Cursor) (b d ys : List ℕ) (read : ℕ) (more : Bool) (held : Held p (length b))
     (moved : Filled (λ k. getD b (p .at + k) 0) b (p .end - p .at) d) where
   abbrev left : ℕ
   left = p .end - p .at

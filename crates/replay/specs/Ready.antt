@@ -4,17 +4,17 @@ use mathlib.Core.List.{List}
 use Prim.Native.Nat.{ℕ, _+_, _-_, _≤_, _<_}
 use lib.ListN.{getD}
 use Rattle.replay.specs.declared.frame.Frame.{Frame}
-use Rattle.replay.specs.declared.input.Place.{Place}
-use Rattle.answers.specs.declared.State.{State}
+use Rattle.replay.specs.declared.input.Cursor.{Cursor}
+use Rattle.script_calls.specs.declared.State.{State}
 use Rattle.replay.specs.declared.turns.Turn.{Turn}
 
 -- the place lies in what the buffer holds
-pub record Held (p : Place) (size : ℕ) : Type 0 where
+pub record Held (p : Cursor) (size : ℕ) : Type 0 where
   pub order : p .at ≤ p .end
   pub within : p .end ≤ size
 
 -- what was held at p and not read yet stands at r, and more may stand behind it
-pub record Unread (p : Place) (before : List ℕ) (r : Place) (after : List ℕ) : Type 0 where
+pub record Unread (p : Cursor) (before : List ℕ) (r : Cursor) (after : List ℕ) : Type 0 where
   pub many : p .end - p .at ≤ r .end - r .at
   pub same : (k : ℕ) → k < p .end - p .at → getD after (r .at + k) 0 ≡ getD before (p .at + k) 0
 
@@ -37,7 +37,7 @@ pub record Waits (s : State) (output : ℕ) : Type 0 where
 -- a call may be made
 pub record Ready (t : Turn) (surface journal input output : ℕ) : Type 0 where
   pub place : Held (t .place) input
-  pub lent : Lends (t .state) surface journal
+  pub memory : Lends (t .state) surface journal
   pub text : Waits (t .state) output
 
 -- r is lent as much as s

@@ -5,8 +5,8 @@ ghost use lib.ListN.{length};
 ghost use Rattle.replay.specs.Ready.{Found, Lends, Waits, Same};
 use crate::frame::Frame;
 use crate::output;
-use answers::State;
 use player::Answer;
+use script_calls::State;
 
 // The script has a fault: nothing follows.
 pub fn faulty(s: State) -> State
@@ -35,7 +35,7 @@ fn answered(output: &mut [u8], s: State, a: Answer) -> State
     requires { ⌜ Waits s (length (now output)) ⌝ }
     ensures { λ r. ⌜ Same s r × Waits r (length (now (output .entry))) ⌝ }
 {
-    let numbers = [a.status as u64, a.pixels as u64, a.used];
+    let numbers = [a.status as u64, a.number as u64, a.used];
     let mut r = s;
     r.used = a.used;
     r.waiting = output::line(output, s.waiting, &numbers);
@@ -55,7 +55,7 @@ fn play(
 {
     let from = f.from;
     let to = f.to;
-    let a = answers::play(surface, journal, s, &bytes[from..to], bytes);
+    let a = script_calls::play(surface, journal, s, &bytes[from..to], bytes);
     answered(output, s, a)
 }
 
@@ -63,7 +63,7 @@ fn undo(surface: &mut [u32], journal: &[u8], output: &mut [u8], s: State) -> Sta
     requires { ⌜ Lends s (length (now surface)) (length (now journal)) × Waits s (length (now output)) ⌝ }
     ensures { λ r. ⌜ Same s r × Waits r (length (now (output .entry))) ⌝ }
 {
-    let a = answers::undo(surface, journal, s);
+    let a = script_calls::undo(surface, journal, s);
     answered(output, s, a)
 }
 
@@ -77,7 +77,7 @@ fn read(output: &mut [u8], bytes: &[u8], f: Frame, s: State) -> State
     }
     let from = f.from;
     let to = f.to;
-    let numbers = answers::read(&bytes[from..to], which == 1);
+    let numbers = script_calls::read(&bytes[from..to], which == 1);
     let mut r = s;
     r.waiting = output::line(output, s.waiting, &numbers);
     r

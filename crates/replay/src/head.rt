@@ -5,11 +5,11 @@ ghost use lib.ListN.{length};
 ghost use Rattle.replay.specs.Ready.{Held, Lends, Ready};
 use crate::calls;
 use crate::input;
-use crate::input::Place;
+use crate::input::Cursor;
 use crate::output;
 use crate::turns;
 use crate::turns::Turn;
-use answers::State;
+use script_calls::State;
 
 // Before the head was read, and where it has a fault.
 fn nothing() -> State
@@ -54,7 +54,7 @@ fn sides(mark: u32, width: u32, height: u32, count: u32, most: usize) -> State
 fn read_surface(surface: &mut [u32], input: &mut [u8]) -> Turn
     ensures { λ r. ⌜ Held (r .place) (length (now (input .entry))) × Lends (r .state) (length (now (surface .entry))) 0 × (r .state .waiting ≡ 0) ⌝ }
 {
-    let start = Place {
+    let start = Cursor {
         at: 0,
         end: 0,
         more: true,
@@ -77,7 +77,7 @@ fn records(journal: &mut [u8], count: u32, seed: u32, used: u32, state: State) -
     if journal.len() < bytes {
         return calls::faulty(state);
     }
-    script::fill::all(&mut journal[..bytes], seed);
+    script_format::fill::all(&mut journal[..bytes], seed);
     let in_use = used as u64;
     let mut r = state;
     r.bytes = bytes;
@@ -125,9 +125,9 @@ fn sums(surface: &[u32], journal: &[u8], output: &mut [u8], waiting: usize)
     requires { ⌜ (waiting ≤ length (now output)) × (21 ≤ length (now output)) ⌝ }
 {
     let a = output::text(output, waiting, b"sheet ");
-    let b = output::number(output, a, script::sum::of_words(surface), b'\n');
+    let b = output::number(output, a, script_format::sum::of_words(surface), b'\n');
     let c = output::text(output, b, b"journal ");
-    let d = output::number(output, c, script::sum::of_bytes(journal), b'\n');
+    let d = output::number(output, c, script_format::sum::of_bytes(journal), b'\n');
     output::flush(output, d);
 }
 

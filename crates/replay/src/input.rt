@@ -7,7 +7,7 @@ ghost use Rattle.replay.specs.Ready.{Held, Unread};
 
 // The next byte in the buffer, the end of what the buffer holds, and whether the script may go on behind it. Where it is not
 // good, the script was too short for what was read.
-pub struct Place {
+pub struct Cursor {
     pub at: usize,
     pub end: usize,
     pub more: bool,
@@ -27,7 +27,7 @@ fn shift(buffer: &mut [u8], from: usize, count: usize)
 }
 
 // The same place of the script, with its bytes moved to the front and the rest of the buffer filled.
-fn refill(buffer: &mut [u8], p: Place) -> Place
+fn refill(buffer: &mut [u8], p: Cursor) -> Cursor
     requires { ⌜ Held p (length (now buffer)) ⌝ }
     ensures { λ r. ⌜ Held r (length (now (buffer .entry))) × Unread p (now (buffer .entry)) r (now (buffer .exit)) ⌝ }
 {
@@ -35,7 +35,7 @@ fn refill(buffer: &mut [u8], p: Place) -> Place
     let left = p.end - p.at;
     shift(buffer, p.at, left);
     let read = io::read_full(0, &mut buffer[left..]);
-    Place {
+    Cursor {
         at: 0,
         end: left + read,
         more: left + read == full,
@@ -44,7 +44,7 @@ fn refill(buffer: &mut [u8], p: Place) -> Place
 }
 
 // The same place of the script, with `count` bytes to read, or else all there are.
-pub fn ahead(buffer: &mut [u8], p: Place, count: usize) -> Place
+pub fn ahead(buffer: &mut [u8], p: Cursor, count: usize) -> Cursor
     requires { ⌜ Held p (length (now buffer)) ⌝ }
     ensures { λ r. ⌜ Held r (length (now (buffer .entry))) × Unread p (now (buffer .entry)) r (now (buffer .exit)) ⌝ }
 {
@@ -58,7 +58,7 @@ pub fn ahead(buffer: &mut [u8], p: Place, count: usize) -> Place
 }
 
 // As many numbers as the slice takes.
-pub fn fill(buffer: &mut [u8], start: Place, to: &mut [u32]) -> Place
+pub fn fill(buffer: &mut [u8], start: Cursor, to: &mut [u32]) -> Cursor
     requires { ⌜ Held start (length (now buffer)) ⌝ }
     ensures { λ r. ⌜ Held r (length (now (buffer .entry))) ⌝ }
 {

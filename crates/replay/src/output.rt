@@ -25,7 +25,7 @@ pub fn text(buffer: &mut [u8], waiting: usize, s: &[u8]) -> usize
     ensures { λ r. ⌜ r ≤ length (now (buffer .entry)) ⌝ }
 {
     let at = room(buffer, waiting, s.len());
-    script::text::put(buffer, at, s)
+    script_format::text::put(buffer, at, s)
 }
 
 pub fn number(buffer: &mut [u8], waiting: usize, n: u64, after: u8) -> usize
@@ -33,7 +33,7 @@ pub fn number(buffer: &mut [u8], waiting: usize, n: u64, after: u8) -> usize
     ensures { λ r. ⌜ r ≤ length (now (buffer .entry)) ⌝ }
 {
     let at = room(buffer, waiting, 21);
-    let end = script::text::decimal(buffer, at, n);
+    let end = script_format::text::decimal(buffer, at, n);
     buffer[end] = after;
     end + 1
 }

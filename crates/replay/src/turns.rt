@@ -4,12 +4,12 @@ ghost use Rattle.replay.specs.Ready.{Waits, Ready};
 use crate::calls;
 use crate::frame;
 use crate::input;
-use crate::input::Place;
-use answers::State;
+use crate::input::Cursor;
+use script_calls::State;
 
 // The script's place, and what the calls so far have left.
 pub struct Turn {
-    pub place: Place,
+    pub place: Cursor,
     pub state: State,
 }
 

@@ -11,7 +11,7 @@ use lib.ListN.{length, length-take, length-drop}
 use borrow.Author.Tests.{eqb-true, leb-true, not-false}
 use Rattle.words.proofs.ChoiceLaws.{or-none, and-both}
 use Rattle.pixel.specs.Masks.{maskWidth, maskOf, contiguous, isChannel}
-use Rattle.pixel.specs.Place.{rowLength}
+use Rattle.pixel.specs.Position.{rowLength}
 use Rattle.pixel.proofs.MaskLaws.{ones-of}
 use Rattle.dib.specs.declared.Masks.{Masks}
 use Rattle.dib.specs.declared.Header.{Header}

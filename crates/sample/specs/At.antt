@@ -3,7 +3,7 @@ use Prim.Native.Nat.{ℕ, _^_, _<_}
 use mathlib.Core.Bool.{Bool}
 use mathlib.Core.List.{List}
 use lib.ListN.{getD}
-use Rattle.pixel.specs.Place.{rowLength}
+use Rattle.pixel.specs.Position.{rowLength}
 use Rattle.dib.specs.declared.Header.{Header}
 use Rattle.dib.specs.Header.{topDown, rows}
 use Rattle.sample.specs.Stored.{stored, storedRow, rowBytes}

@@ -13,7 +13,7 @@ fn main() {
     numbers::needs_source();
     numbers::widths();
     numbers::row_lengths();
-    numbers::source_places();
+    numbers::source_positions();
     numbers::mask_places();
     numbers::channel_masks();
     numbers::halves();

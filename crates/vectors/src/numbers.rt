@@ -2,7 +2,7 @@
 use crate::line;
 use pixel::blend;
 use pixel::masks;
-use pixel::place;
+use pixel::position;
 
 pub fn blends() {
     line::number(
@@ -95,45 +95,45 @@ pub fn widths() {
 pub fn row_lengths() {
     line::number(
         b"row length of 1 pixel of 24 bits",
-        place::row_length(1, 24),
+        position::row_length(1, 24),
         4,
     );
     line::number(
         b"row length of 33 pixels of 1 bit",
-        place::row_length(33, 1),
+        position::row_length(33, 1),
         8,
     );
 }
 
-pub fn source_places() {
+pub fn source_positions() {
     line::number(
         b"n 2, m 3, i 0 reads",
-        place::source_place(false, 0, 2, 3) as u64,
+        position::source_position(false, 0, 2, 3) as u64,
         0,
     );
     line::number(
         b"n 2, m 3, i 1 reads",
-        place::source_place(false, 1, 2, 3) as u64,
+        position::source_position(false, 1, 2, 3) as u64,
         0,
     );
     line::number(
         b"n 2, m 3, i 2 reads",
-        place::source_place(false, 2, 2, 3) as u64,
+        position::source_position(false, 2, 2, 3) as u64,
         1,
     );
     line::number(
         b"n 2, m 3, i 0, mirrored, reads",
-        place::source_place(true, 0, 2, 3) as u64,
+        position::source_position(true, 0, 2, 3) as u64,
         1,
     );
     line::number(
         b"n 2, m 3, i 1, mirrored, reads",
-        place::source_place(true, 1, 2, 3) as u64,
+        position::source_position(true, 1, 2, 3) as u64,
         1,
     );
     line::number(
         b"n 2, m 3, i 2, mirrored, reads",
-        place::source_place(true, 2, 2, 3) as u64,
+        position::source_position(true, 2, 2, 3) as u64,
         0,
     );
 }
@@ -141,7 +141,7 @@ pub fn source_places() {
 pub fn mask_places() {
     line::number(
         b"mask width 8, xMask -3, i 0 reads column",
-        place::mask_pixel(-3, 0, 8) as u64,
+        position::mask_pixel(-3, 0, 8) as u64,
         5,
     );
 }

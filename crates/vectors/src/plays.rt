@@ -78,7 +78,7 @@ pub fn whole() {
 fn taken(r: &[u8], surface: &mut [u32], journal: &mut [u8]) {
     let a = player::play(surface, 2, 1, journal, 0, r, everywhere());
     line::number(b"whole play, 36 bytes: status", a.status as u64, 0);
-    line::number(b"whole play: pixels", a.pixels as u64, 2);
+    line::number(b"whole play: pixels", a.number as u64, 2);
     line::number(b"whole play: count in use", a.used, 3);
     played(surface, journal);
     undone(surface, journal, a.used);
@@ -102,7 +102,7 @@ fn played(surface: &[u32], journal: &[u8]) {
 fn undone(surface: &mut [u32], journal: &[u8], used: u64) {
     let b = player::undo(surface, 2, 1, journal, used);
     line::number(b"undone: status", b.status as u64, 0);
-    line::number(b"undone: pixels", b.pixels as u64, 2);
+    line::number(b"undone: pixels", b.number as u64, 2);
     line::number(b"undone: count in use", b.used, 0);
     line::pixel(b"undone: pixel 0", pixel_at(surface, 0), 0xFF000000);
     line::pixel(b"undone: pixel 1", pixel_at(surface, 1), 0xFF0000FF);
@@ -129,7 +129,7 @@ fn not_taken(label: &[u8], r: &[u8], journal: &mut [u8], status: u32) {
     let mut surface = [0xFF000000u32, 0xFF0000FFu32];
     let a = player::play(&mut surface, 2, 1, journal, 0, r, everywhere());
     line::number(label, a.status as u64, status as u64);
-    line::number(b"refused: pixels", a.pixels as u64, 0);
+    line::number(b"refused: pixels", a.number as u64, 0);
     line::pixel(b"refused: pixel 0", surface[0], 0xFF000000);
     line::pixel(b"refused: pixel 1", surface[1], 0xFF0000FF);
 }

@@ -1,4 +1,4 @@
--- The call's status and pixels are stored one behind the other, and the next call stands behind this one.
+-- The call's status and number are stored one behind the other, and the next call stands behind this one.
 use mathlib.Core.Path.{refl}
 use native.Mathlib.Omega.{arith}
 use Rattle.history.proofs.CallLaws.{second-inside, call-inside, stepped}

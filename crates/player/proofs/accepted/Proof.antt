@@ -1,6 +1,6 @@
 -- The target's pixels and a closing record fit the journal, or 14 is answered; then rows and closing record are one run of records.
 use native.Mathlib.Omega.{arith}
-use Rattle.lent.proofs.LimitLaws.{passed}
+use Rattle.memory.proofs.LimitLaws.{passed}
 use Rattle.draw.proofs.ReadyLaws.{ready}
 use Rattle.player.proofs.PlayLaws.{pixels-few, play-full, play-drawn}
 use borrow.Author.Needs.{needs}

@@ -1,6 +1,6 @@
 -- The code's expression is the definition's.
 use mathlib.Core.Path.{refl}
-use Rattle.pixel.specs.Place.{isDepth}
+use Rattle.pixel.specs.Position.{isDepth}
 use Rattle.dib.proofs.limits.is_depth.Statement.{statement}
 use Rattle.dib.proofs.limits.is_depth.Tie as tie
 

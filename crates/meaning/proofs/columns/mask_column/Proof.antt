@@ -1,5 +1,5 @@
 -- The corner is read as a signed number, and the rest is the mask's own function.
-use Rattle.pixel.specs.Place.{maskPixel}
+use Rattle.pixel.specs.Position.{maskPixel}
 use lib.IntN.{ℤ}
 use mathlib.Core.Path.{ap, _∙_}
 use mir.Facts.{toZ-ofZ}

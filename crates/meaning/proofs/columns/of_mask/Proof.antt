@@ -1,6 +1,6 @@
 -- Each turn fills one column of the mask.
 use Rattle.words.proofs.FillingLaws.{Filling, filling-begins, filling-turns, filling-ends}
-use Rattle.pixel.specs.Place.{maskPixel}
+use Rattle.pixel.specs.Position.{maskPixel}
 use Rattle.words.specs.Bytes.{signed32}
 use native.Mathlib.Omega.{arith}
 use Prim.Native.Nat.{_+_, _-_}

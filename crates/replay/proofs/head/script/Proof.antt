@@ -22,7 +22,7 @@ calls-and-sums-requires c κs =
     let head = c .before .before .before .before .before .before .before .before .before .before .before .start in
     record {
       place = record { order = head .ensures .0 .order; within = omega (arith, head .ensures .0 .within, head .kept .1 .1 .0) };
-      lent = record {
+      memory = record {
         pixels = whole _ _ (omega (arith, head .ensures .1 .pixels, head .kept .0));
         bytes = whole _ _ (omega (arith, head .ensures .1 .bytes, head .kept .1 .0));
       };

@@ -1,0 +1,3 @@
+pub mod Memory
+pub mod Playing
+pub mod Undoing
