@@ -4,13 +4,13 @@
  * needs memcpy and memset of the C library and nothing else: no heap, no globals, no threads, no input or output, no errno.
  *
  * Every call takes every input: it ends, and does nothing undefined, whatever the bytes are. What must hold of the pointers:
- *   - each points to as many elements as the length behind it says, `used` and `pixels` to one, aligned as its type asks;
+ *   - each points to as many elements as the length behind it says, `used`, `pixels` and `calls` to one, aligned as its type asks;
  *   - none is null, also where its length is 0: any aligned address will do there;
- *   - what a call may write (surface, journal, used, pixels, out) overlaps nothing else that is lent to the same call;
+ *   - what a call may write (surface, journal, used, pixels, answers, calls, out) overlaps nothing else that is lent to the same call;
  *   - nobody else writes the lent memory during the call, nor reads what the call writes.
  * Calls on memory of their own may run at the same time. A call keeps no pointer.
  *
- * Stack: a play uses about 60 KiB (buffers for one row of 4,096 pixels, and a palette), whatever the input; the other
+ * Stack: a play, and a run, uses about 60 KiB (buffers for one row of 4,096 pixels, and a palette), whatever the input; the other
  * calls use less than 8 KiB. There is no recursion.
  *
  * A surface is width by height 32-bit pixels, row by row from the top: alpha << 24 | red << 16 | green << 8 | blue.
@@ -54,7 +54,9 @@ enum lacrumont_status {
     LACRUMONT_BAD_MASK = 13,      /* mask blit whose mask is absent or not 1 bit */
     LACRUMONT_NO_ROOM = 14,       /* play: pixels + 1 exceed the free records */
     LACRUMONT_NOTHING = 15,       /* undo: no record in use */
-    LACRUMONT_BAD_CLOSING = 16    /* undo: the last record does not close a play, names too many, or one of those is off the surface */
+    LACRUMONT_BAD_CLOSING = 16,   /* undo: the last record does not close a play, names too many, or one of those is off the surface */
+    LACRUMONT_BAD_LIST = 29,      /* run: the list is malformed */
+    LACRUMONT_FEW_ANSWERS = 30    /* run: there is no room for two numbers of each call */
 };
 
 /* Plays the record, cut to the clip (left, top, right, bottom; right and bottom not included; any numbers) with the brush's low
@@ -76,6 +78,16 @@ uint32_t lacrumont_play(uint32_t *surface, size_t surface_len, uint32_t width, u
  * only read. *pixels is the number restored, 0 where the undo is refused. Statuses 0, 1, 2, 15, 16; all records are tested before one pixel is restored. */
 uint32_t lacrumont_undo(uint32_t *surface, size_t surface_len, uint32_t width, uint32_t height, const uint8_t *journal,
                         size_t journal_len, uint64_t *used, uint32_t *pixels);
+
+/* Runs a list of plays and undos, each made as by the two calls above, on a journal that has no record in use. The list is 32-bit
+ * little-endian numbers: how many calls, then the calls, and nothing behind them. A play: 1, left, top, right, bottom, brush, a number
+ * that is kept for a tag and not looked at, the record's length, the record, and bytes up to the next multiple of 4. An undo: 2.
+ *
+ * `answers` gets two numbers of each call, in order: its status and its pixels. A call that is refused is answered so, and the next
+ * one is made. *calls is the number of calls, *used the journal's records in use afterwards. Statuses 0, 1, 2, 29, 30. A refused run makes
+ * no call: nothing is written but *calls and *used, which are 0. */
+uint32_t lacrumont_run(uint32_t *surface, size_t surface_len, uint32_t width, uint32_t height, uint8_t *journal, size_t journal_len,
+                       const uint8_t *list, size_t list_len, uint32_t *answers, size_t answers_len, uint64_t *used, uint32_t *calls);
 
 /* The numbers of a reading, by their place in `out`. The two parts are the record's own bytes, by offset and length. A refused
  * reading, and one of a picture that is absent, gives 0 everywhere but for bits, which are 1. */

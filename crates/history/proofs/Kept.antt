@@ -4,11 +4,12 @@ use mathlib.Core.List.{List, [], _∷_, _++_}
 use Prim.Native.Nat.{ℕ, _+_, _*_, _/_, _≤_}
 use native.Mathlib.Omega.{arith}
 use lib.ListN.{length, take, length-append}
-use Rattle.journal.specs.Records.{stride, Entry, bytesOf, saved}
-use Rattle.journal.proofs.RecordLaws.{length-drawn, length-saved}
+use Rattle.journal.specs.Records.{stride, Entry, bytesOf}
+use Rattle.journal.proofs.RecordLaws.{length-drawn}
 use Rattle.journal.proofs.UndoLaws.{words-drawn}
 use Rattle.memory.specs.Memory.{Memory, memory, Outcome, limits, memoryStatus, records}
 use Rattle.memory.proofs.LimitLaws.{passed, limits-none}
+use Rattle.memory.proofs.PlayingLaws.{length-appended}
 use Rattle.memory.specs.Playing.{appended}
 use Rattle.player.specs.Calls.{Play, work}
 use Rattle.player.proofs.WorkLaws.{paints-pixels}
@@ -28,12 +29,6 @@ pixels-drawnAll w h [] s b = b
 pixels-drawnAll w h (p ∷ ps) s b =
     words-drawn w (work w h p .paint) (paints-pixels w h p) (work w h p .points) (drawnAll w h ps s) (pixels-drawnAll w h ps s b)
 
-pub length-appended : (w h : ℕ) (p : Play) (s : List ℕ) → length (appended w (work w h p) s) ≡ count w h p + 1
-unfolding appended
-length-appended w h p s =
-    length-append (saved w (work w h p .paint) (work w h p .points) s) _
-    ∙ ap (λ (n : ℕ). n + 1) (length-saved w (work w h p .paint) (work w h p .points) s)
-
 -- all that the plays have appended, lowest first
 unfoldable pub entriesOf : (w h : ℕ) → List Play → (start : List ℕ) → List Entry
 entriesOf w h [] s = []
@@ -43,7 +38,7 @@ pub length-entries : (w h : ℕ) (ps : List Play) (s : List ℕ) → length (ent
 unfolding entriesOf recordsUsed
 length-entries w h [] s = refl
 length-entries w h (p ∷ ps) s =
-    length-append (entriesOf w h ps s) _ ∙ ap₂ (λ (n m : ℕ). n + m) (length-entries w h ps s) (length-appended w h p (drawnAll w h ps s))
+    length-append (entriesOf w h ps s) _ ∙ ap₂ (λ (n m : ℕ). n + m) (length-entries w h ps s) (length-appended w (work w h p) (drawnAll w h ps s))
 
 -- ---- statuses 1 and 2
 

@@ -6,3 +6,4 @@ pub mod Condition3
 pub mod CallLaws
 pub mod LoopLaws
 pub mod RunLaws
+pub mod Conditions

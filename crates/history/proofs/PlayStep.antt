@@ -15,9 +15,10 @@ use Rattle.journal.proofs.UndoLaws.{front-stored}
 use Rattle.judge.specs.Check.{statusOf}
 use Rattle.memory.specs.Memory.{Memory, outcome, settle, records}
 use Rattle.memory.specs.Playing.{drawnBy, appended, played, fullStatus, playOf}
+use Rattle.memory.proofs.PlayingLaws.{length-appended}
 use Rattle.player.specs.Calls.{Play, work, playOutcome}
 use Rattle.history.specs.History.{History, history, count, recordsUsed, drawnAll, surfaceOf, usedOf, pushStatus, push}
-use Rattle.history.proofs.Kept.{entriesOf, length-appended, Frame, Kept, kept-passes, Step}
+use Rattle.history.proofs.Kept.{entriesOf, Frame, Kept, kept-passes, Step}
 
 module _ (w h : ℕ) (p : Play) (q : History) (m : Memory) (K : Kept w h q m) where
   -- the journal after an accepted play: what was in use, and then what the play appended
@@ -27,7 +28,7 @@ module _ (w h : ℕ) (p : Play) (q : History) (m : Memory) (K : Kept w h q m) wh
   journal-more le =
       let new : List Entry = appended w (work w h p) (surfaceOf w h q) in
       let n : length (bytesOf new) ≡ (count w h p + 1) * stride =
-      length-bytes new ∙ ap (λ (k : ℕ). k * stride) (length-appended w h p (surfaceOf w h q)) in
+      length-bytes new ∙ ap (λ (k : ℕ). k * stride) (length-appended w (work w h p) (surfaceOf w h q)) in
       rw (K .used, K .surface)
       (front-stored (m .journal) (usedOf w h q * stride) (entriesOf w h (q .plays) (q .start)) new ((usedOf w h q + (count w h p + 1)) * stride)
       (K .journal) (omega (arith, n)) (omega (arith, K .size)))

@@ -3,3 +3,4 @@ pub mod Lists
 pub mod Run
 pub mod Reported
 pub mod Stepped
+pub mod Conditions

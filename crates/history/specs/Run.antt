@@ -1,7 +1,7 @@
 -- A list of calls as bytes, and what running it answers and leaves: condition 3 as a promise of running code. Definitions only.
 --
 -- The bytes are 32-bit numbers: how many calls, then the calls, and nothing behind them. A play: 1, left, top, right, bottom, brush, a
--- number that is not looked at, the record's length, the record, and bytes up to the next multiple of 4. An undo: 2.
+-- number that is kept for a tag and not looked at, the record's length, the record, and bytes up to the next multiple of 4. An undo: 2.
 use Prim.Native.Nat.{ℕ, zero, suc, _+_, _*_, _/_}
 use mathlib.Core.Bool.{Bool, cond, not, _&&_}
 use mathlib.Core.List.{List, [], _∷_}
@@ -67,6 +67,10 @@ pub record Ran : Type 0 where
   pub journal : List ℕ
   pub answers : List ℕ
 
+abbrev pub ran : (status calls used : ℕ) (surface journal answers : List ℕ) → Ran
+ran status calls used surface journal answers =
+    record { status = status; calls = calls; used = used; surface = surface; journal = journal; answers = answers }
+
 -- a refused run changes nothing; a run answers what the history answers, and leaves its surface and the records that it uses
 abbrev pub settleRun : (status : ℕ) (width height : ℕ) (surface journal list answers : List ℕ) → Ran
 settleRun zero width height surface journal l answers = record {
@@ -77,8 +81,7 @@ settleRun zero width height surface journal l answers = record {
   journal = memoryAfter width height (callsOf l) (memory surface journal 0) .journal;
   answers = sets answers 0 (numbersOf (historyAnswers width height (callsOf l) (history surface (records (memory surface journal 0)) [])));
 }
-settleRun (suc k) width height surface journal l answers =
-    record { status = suc k; calls = 0; used = 0; surface = surface; journal = journal; answers = answers }
+settleRun (suc k) width height surface journal l answers = ran (suc k) 0 0 surface journal answers
 
 unfoldable pub runOf : (width height : ℕ) (surface journal list answers : List ℕ) → Ran
 runOf width height surface journal l answers =

@@ -2,6 +2,7 @@
 ghost use mathlib.Core.Path.{_≡_};
 ghost use Rattle.memory.specs.Memory.{memory, outcome};
 ghost use Rattle.memory.specs.Undoing.{undoOf};
+ghost use Rattle.history.specs.Run.{ran, runOf};
 ghost use Rattle.reading.specs.Reading.{readingOf, readPalette};
 ghost use Rattle.lacrumont.specs.Numbers.{asksMask, numbersIn};
 ghost use Rattle.player.specs.Calls.{playWith, playOutcome};
@@ -59,6 +60,28 @@ pub extern "C" fn lacrumont_undo(
     let a = player::undo(surface, width, height, journal, before);
     *used = a.used;
     *pixels = a.number;
+    a.status
+}
+
+// Runs a list of plays and undos on a surface and a journal with no record in use. `answers` gets two numbers of each call, `calls` their
+// number, `used` the journal's records in use.
+#[no_mangle]
+pub extern "C" fn lacrumont_run(
+    surface: &mut [u32],
+    width: u32,
+    height: u32,
+    journal: &mut [u8],
+    list: &[u8],
+    answers: &mut [u32],
+    used: &mut u64,
+    calls: &mut u32,
+) -> u32
+    ensures { λ r. ⌜ ran r (now (calls .exit)) (now (used .exit)) (now (surface .exit)) (now (journal .exit)) (now (answers .exit))
+        ≡ runOf width height (now (surface .entry)) (now (journal .entry)) (now (list .entry)) (now (answers .entry)) ⌝ }
+{
+    let a = history::run(surface, width, height, journal, list, answers);
+    *used = a.used;
+    *calls = a.calls;
     a.status
 }
 

@@ -1,5 +1,6 @@
--- What the proofs of play and undo cite: the ways through each, a play's work, and condition 2 pixel by pixel.
+-- What the proofs of play and undo cite: the ways through each and a play's work; and conditions 1 and 2, pixel by pixel.
 pub mod UndoLaws
 pub mod WorkLaws
 pub mod PlayLaws
 pub mod PixelLaws
+pub mod Conditions

@@ -1,4 +1,4 @@
--- Condition 2 pixel by pixel, for the reader: what follows from the definition of a play drawn. Definitions, and the claim.
+-- Condition 2 pixel by pixel: what follows from the definition of a play drawn, the middle of `Condition2`. Definitions, and the claim.
 use mathlib.Core.Path.{_≡_}
 use Prim.Native.Nat.{ℕ, _*_, _<_}
 use mathlib.Core.List.{List, map}
@@ -23,17 +23,18 @@ Bytes s = (k : ℕ) → byteAt s k < 256
 abbrev pub pixel : (width : ℕ) → List ℕ → (x y : ℕ) → ℕ
 pixel width s x y = getD s (pixelIndex width x y) 0
 
--- the play p on the surface s, whose record means k and whose clipped target is t
-pub record Pixels (width height : ℕ) (p : Play) (s : List ℕ) (k : Meaning) (t : Target) : Type 0 where
+-- the play p made the surface `after` of the surface s; its record means k and its clipped target is t
+pub record Pixels (width height : ℕ) (p : Play) (s after : List ℕ) (k : Meaning) (t : Target) : Type 0 where
   -- "each pixel of the clipped target the number the published equations or raster operation define": of the OLD pixel, and of the
   -- source pixel and mask bit of its column and row in the whole target
   pub inside : (x y : ℕ) → Covers t x y
-      → pixel width (drawnBy width (work width height p) s) x y
-      ≡ paintedBy (k .rule (p .terms .brush)) (k .source (within (t .columns) x) (within (t .rows) y)) (k .bit (within (t .columns) x) (within (t .rows) y)) (pixel width s x y)
+      → pixel width after x y
+      ≡ paintedBy (k .rule (p .terms .brush)) (k .source (within (t .columns) x) (within (t .rows) y))
+      (k .bit (within (t .columns) x) (within (t .rows) y)) (pixel width s x y)
   -- which pixels those are: "every pixel of target and cut clip", where Bounds meet it
   pub target : Bytes (p .bytes) → Words (p .terms .clip) → Exact width height (p .terms .clip) (k .bounds) (k .x) (k .y) (k .cx) (k .cy) t
   -- "changes no other"
-  pub outside : (x y : ℕ) → x < width → (Covers t x y → ⊥) → pixel width (drawnBy width (work width height p) s) x y ≡ pixel width s x y
+  pub outside : (x y : ℕ) → x < width → (Covers t x y → ⊥) → pixel width after x y ≡ pixel width s x y
   -- each journal record holds the pixel of the surface before the play
   pub records : saved width (work width height p .paint) (work width height p .points) s
       ≡ map (λ (q : Point). entry (q .x) (q .y) (pixel width s (q .x) (q .y))) (work width height p .points)
@@ -43,4 +44,4 @@ pub record Pixels (width height : ℕ) (p : Play) (s : List ℕ) (k : Meaning) (
 abbrev pub PixelByPixel : Type 0
 PixelByPixel =
     (width height : ℕ) (p : Play) (s : List ℕ) → length s ≡ width * height
-    → Pixels width height p s (meaningOf (p .bytes)) (targetIn width height (meaningOf (p .bytes)) (p .terms .clip))
+    → Pixels width height p s (drawnBy width (work width height p) s) (meaningOf (p .bytes)) (targetIn width height (meaningOf (p .bytes)) (p .terms .clip))
