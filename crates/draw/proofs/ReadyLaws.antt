@@ -6,14 +6,13 @@ use native.Mathlib.Nat.{mul-le-mul-left, mul-comm}
 use native.Mathlib.Omega.{arith}
 use lib.ListN.{length, take}
 use lib.Seq.{sets, getD-take, length-take-le}
-use Rattle.words.specs.Bytes.{magnitude32}
 use Rattle.words.proofs.FillLaws.{filled-front}
 use Rattle.judge.specs.declared.Record.{Record}
 use Rattle.judge.specs.Good.{Good}
 use Rattle.region.specs.declared.Target.{Target}
 use Rattle.region.specs.declared.Rectangle.{Rectangle}
 use Rattle.region.specs.Target.{Point, block, pointsIn, targetOf}
-use Rattle.region.proofs.TargetLaws.{On, inside, Numbered, numbered, block-none}
+use Rattle.region.proofs.TargetLaws.{OnBoth, inside, block-none}
 use Rattle.journal.specs.Drawing.{Paint, drawn}
 use Rattle.journal.specs.Records.{stride, bytesOf, saved}
 use Rattle.draw.specs.declared.Plan.{Plan}
@@ -40,18 +39,16 @@ pub ready : (size h : ℕ) (clip : Rectangle) (p : Plan) (s j : List ℕ) → Go
 ready size h clip p s j good e wide high long room some =
     let w : ℕ = p .width in
     let r : Record = p .record in
-    let on = subst (λ (t : Target). On w (t .columns) × On h (t .rows)) (sym e) (inside w h clip (r .bounds) (r .x) (r .y) (r .cx) (r .cy)) in
-    let num = subst (λ (t : Target). Numbered (magnitude32 (r .cx)) (t .columns) × Numbered (magnitude32 (r .cy)) (t .rows)) (sym e)
-    (numbered w h clip (r .bounds) (r .x) (r .y) (r .cx) (r .cy)) in
+    let on = subst (OnBoth w h (r .cx) (r .cy)) (sym e) (inside w h clip (r .bounds) (r .x) (r .y) (r .cx) (r .cy)) in
     record {
       good = good;
       wide = wide;
       some = some;
-      columns = on .0 .ends some;
-      lines = λ l. omega (arith, on .1 .ends l);
-      pixels = λ l. omega (arith, mul-le-mul-left w (on .1 .ends l), mul-comm w (p .target .rows .at + p .target .rows .count));
-      column-numbers = num .0 .last some;
-      line-numbers = num .1 .last;
+      columns = on .columns .ends some;
+      lines = λ l. omega (arith, on .rows .ends l);
+      pixels = λ l. omega (arith, mul-le-mul-left w (on .rows .ends l), mul-comm w (p .target .rows .at + p .target .rows .count));
+      column-numbers = on .columns .last some;
+      line-numbers = on .rows .last;
       records = room;
     }
 

@@ -4,8 +4,9 @@ use mathlib.Core.Bool.{Bool, true, false, cond, not, _||_}
 use Prim.Native.Nat.{ℕ, _+_, _-_, _^_, _≤_, _<_}
 use native.Mathlib.Omega.{arith}
 use lib.Dec.{ltb}
-use borrow.Author.Tests.{ltb-false, leb-false}
+use borrow.Author.Tests.{ltb-false}
 use Rattle.words.specs.Bytes.{negative32, magnitude32}
+use Rattle.words.proofs.SignedLaws.{plain-low}
 use Rattle.words.proofs.ChoiceLaws.{or-none}
 use Rattle.dib.specs.Header.{rows}
 use Rattle.judge.specs.declared.Record.{Record}
@@ -20,7 +21,7 @@ side most x e = let p = or-none (ltb (magnitude32 x) 1) _ e in (ltb-false _ 1 (p
 -- a source's columns (or rows) that do not stick out of its n
 inside : (x cx n : ℕ) → sticksOut x cx n ≡ false → (x < 2 ^ 31) × (sourceStart x cx + magnitude32 cx ≤ n)
 unfolding sourceStart
-inside x cx n e = let p = or-none (negative32 x) _ e in (leb-false 2147483648 x (p .0), go (negative32 cx) (p .1))
+inside x cx n e = let p = or-none (negative32 x) _ e in (plain-low x (p .0), go (negative32 cx) (p .1))
   where
     go : (t : Bool) → cond t (ltb x (magnitude32 cx) || ltb n x) (ltb n (x + magnitude32 cx)) ≡ false
         → cond t (x - magnitude32 cx) x + magnitude32 cx ≤ n

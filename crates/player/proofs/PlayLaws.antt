@@ -22,7 +22,7 @@ use Rattle.judge.proofs.AcceptedLaws.{accepted as accepted-is}
 use Rattle.region.specs.declared.Target.{Target}
 use Rattle.region.specs.declared.Rectangle.{Rectangle}
 use Rattle.region.specs.Target.{pointsIn, targetOf}
-use Rattle.region.proofs.TargetLaws.{On, inside, length-points}
+use Rattle.region.proofs.TargetLaws.{OnBoth, inside, length-points}
 use Rattle.journal.specs.Drawing.{Work, drawn}
 use Rattle.journal.specs.Records.{mark, stride, entryBytes, bytesOf, saved, closing}
 use Rattle.journal.proofs.RecordLaws.{length-bytes, bytes-append, length-saved}
@@ -75,10 +75,10 @@ module _ (w : ℕ) (k : Work) (s j : List ℕ) (u p : ℕ) (e : counted k ≡ p)
 pub pixels-few : (w h a b u : ℕ) (clip : Rectangle) (n : Record) (t : Target) → limits w h a b u ≡ 0
     → t ≡ targetOf w h clip (n .bounds) (n .x) (n .y) (n .cx) (n .cy) → t .columns .count * t .rows .count ≤ 16777216
 pixels-few w h a b u clip n t f e =
-    let on = subst (λ (t : Target). On w (t .columns) × On h (t .rows)) (sym e) (inside w h clip (n .bounds) (n .x) (n .y) (n .cx) (n .cy)) in
+    let on = subst (OnBoth w h (n .cx) (n .cy)) (sym e) (inside w h clip (n .bounds) (n .x) (n .y) (n .cx) (n .cy)) in
     let sides = passed w h a b u f in
-    let columns : t .columns .count ≤ 4096 = omega (arith, on .0 .most, sides .wide .1) in
-    let lines : t .rows .count ≤ 4096 = omega (arith, on .1 .most, sides .high .1) in
+    let columns : t .columns .count ≤ 4096 = omega (arith, on .columns .most, sides .wide .1) in
+    let lines : t .rows .count ≤ 4096 = omega (arith, on .rows .most, sides .high .1) in
     mul-le-mul columns lines
 
 module _ (w h : ℕ) (s j : List ℕ) (u : ℕ) (r : List ℕ) (n : Record) (o : Terms) (t : Target)

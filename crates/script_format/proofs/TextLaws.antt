@@ -6,7 +6,7 @@ use Prim.Native.Nat.{ℕ, zero, _+_, _-_, _^_, _≤_, _<_}
 use native.Mathlib.Nat.{eq-zero-or-pos, pow-le-pow-right}
 use native.Mathlib.Omega.{arith}
 use lib.ListN.{length, take}
-use lib.Seq.{paste}
+use lib.Seq.{sets}
 use Rattle.io.specs.Digits.{digits, Fewest}
 use Rattle.script_format.specs.Text.{Printed}
 
@@ -23,14 +23,13 @@ few n k small f = go (eq-zero-or-pos (k - 20))
         omega (arith, f .2 one, pow-le-pow-right ten long)
 
 pub printed : (n at end k : ℕ) (a d₀ d : List ℕ) → n < 18446744073709551616 → k ≡ length (take k a) → Fewest 10 1 n k
-    → take k a ≡ digits 10 k n → end ≡ at + length (take k a) → d ≡ paste d₀ at (take k a) (length (take k a)) → Printed n at end d₀ d
+    → take k a ≡ digits 10 k n → end ≡ at + length (take k a) → d ≡ sets d₀ at (take k a) → Printed n at end d₀ d
 printed n at end k a d₀ d small long f text to left =
     record {
       some = omega (arith, f .0);
       few = omega (arith, few n k small f);
       fewest = subst (Fewest 10 1 n) (sym many) f;
-      text = left ∙ ap (paste d₀ at (take k a)) (sym long) ∙ ap (λ (l : List ℕ). paste d₀ at l k) text
-          ∙ ap (λ (m : ℕ). paste d₀ at (digits 10 m n) m) (sym many);
+      text = left ∙ ap (sets d₀ at) text ∙ ap (λ (m : ℕ). sets d₀ at (digits 10 m n)) (sym many);
     }
   where
     many : end - at ≡ k

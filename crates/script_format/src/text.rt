@@ -2,19 +2,15 @@
 ghost use mathlib.Core.Path.{_≡_};
 ghost use Prim.Native.Nat.{_+_, _≤_};
 ghost use lib.ListN.{length};
-ghost use lib.Seq.{paste};
+ghost use lib.Seq.{sets};
 ghost use Rattle.script_format.specs.Text.{Printed};
 
-// The bytes of s to `at`; every other byte stays.
+// The bytes of s to `at`; where they end.
 pub fn put(to: &mut [u8], at: usize, s: &[u8]) -> usize
     requires { ⌜ at + length (now s) ≤ length (now to) ⌝ }
-    ensures { λ r. ⌜ (r ≡ at + length (now (s .entry))) × (now (to .exit) ≡ paste (now (to .entry)) at (now (s .entry)) (length (now (s .entry)))) ⌝ }
+    ensures { λ r. ⌜ (r ≡ at + length (now (s .entry))) × (now (to .exit) ≡ sets (now (to .entry)) at (now (s .entry))) ⌝ }
 {
-    let mut k = 0;
-    while k < s.len() {
-        to[at + k] = s[k];
-        k += 1;
-    }
+    words::copy(to, at, s);
     at + s.len()
 }
 

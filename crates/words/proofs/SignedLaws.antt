@@ -6,7 +6,7 @@ use native.Mathlib.Omega.{arith}
 use lib.Dec.{ltb}
 use lib.IntN.{ℤ, pos, negsuc, negℤ, subℕ, natAbs, _+ℤ_}
 use lib.Signed.{ltZ}
-use borrow.Author.Tests.{leb-true, leb-false, lt-ltb, le-ltb}
+use borrow.Author.Tests.{leb-true, leb-false, le-ltb}
 use Rattle.words.specs.Bytes.{signed32, negative32, magnitude32, raised}
 use Rattle.words.specs.Signed.{TwosComplement}
 use Rattle.words.proofs.ChoiceLaws.{cond-true, cond-false}
@@ -14,16 +14,16 @@ use Rattle.words.proofs.ChoiceLaws.{cond-true, cond-false}
 -- ---- the lower half
 
 module _ (x : ℕ) (t : negative32 x ≡ false) where
-  low : ltb x 2147483648 ≡ true
-  low = lt-ltb x 2147483648 (leb-false 2147483648 x t)
+  pub plain-low : x < 2 ^ 31
+  plain-low = leb-false (2 ^ 31) x t
 
   pub plain-signed : signed32 x ≡ pos x
   unfolding signed32
-  plain-signed = cond-true (ltb x 2147483648) (pos x) (negsuc (4294967295 - x)) low
+  plain-signed = cond-false (negative32 x) (negsuc (4294967295 - x)) (pos x) t
 
   pub plain-size : magnitude32 x ≡ x
   unfolding magnitude32
-  plain-size = cond-true (ltb x 2147483648) x (4294967296 - x) low
+  plain-size = cond-false (negative32 x) (4294967296 - x) x t
 
   plain-raised : raised x ≡ x + 2 ^ 32
   unfolding raised
@@ -44,16 +44,16 @@ difference : (a b c : ℕ) → a ≡ b + c → subℕ a b ≡ pos c
 difference a b c e = cond-false (ltb a b) (negsuc (b - suc a)) (pos (a - b)) (le-ltb a b (omega arith)) ∙ ap pos (omega arith)
 
 module _ (x : ℕ) (t : negative32 x ≡ true) where
-  high : ltb x 2147483648 ≡ false
-  high = le-ltb x 2147483648 (leb-true 2147483648 x t)
+  pub negative-high : 2 ^ 31 ≤ x
+  negative-high = leb-true (2 ^ 31) x t
 
-  negative-signed : signed32 x ≡ negsuc (4294967295 - x)
+  pub negative-signed : signed32 x ≡ negsuc (4294967295 - x)
   unfolding signed32
-  negative-signed = cond-false (ltb x 2147483648) (pos x) (negsuc (4294967295 - x)) high
+  negative-signed = cond-true (negative32 x) (negsuc (4294967295 - x)) (pos x) t
 
   pub negative-size : magnitude32 x ≡ 2 ^ 32 - x
   unfolding magnitude32
-  negative-size = cond-false (ltb x 2147483648) x (4294967296 - x) high
+  negative-size = cond-true (negative32 x) (4294967296 - x) x t
 
   negative-raised : raised x ≡ x
   unfolding raised
@@ -84,5 +84,5 @@ pub size-most : (x : ℕ) → x < 2 ^ 32 → magnitude32 x ≤ 2 ^ 31
 size-most x h = go (negative32 x) refl
   where
     go : (b : Bool) → negative32 x ≡ b → magnitude32 x ≤ 2 ^ 31
-    go false t = omega (arith, plain-size x t, leb-false 2147483648 x t)
-    go true t = omega (arith, negative-size x t, leb-true 2147483648 x t)
+    go false t = omega (arith, plain-size x t, plain-low x t)
+    go true t = omega (arith, negative-size x t, negative-high x t)

@@ -1,4 +1,4 @@
--- Each turn copies one byte.
+-- Each turn stores one byte more; when all of s is stored, that is s stored at its place.
 use mathlib.Core.Path.{_≡_, refl, sym, ap, _∙_}
 use mathlib.Core.List.{List}
 use Prim.Native.Nat.{ℕ, _+_, _-_, _≤_, _<_}
@@ -6,10 +6,9 @@ use native.Mathlib.Omega.{arith}
 use native.Mathlib.Numerals.{add-one}
 use lib.ListN.{length, getD, set, length-set}
 use lib.Seq.{paste, paste-zero, paste-suc}
-use Rattle.script_format.proofs.text.put.Statement.{statement}
-use Rattle.script_format.proofs.text.put.Tie as tie
-use Rattle.script_format.proofs.text.put.Reads as reads
-use Rattle.script_format.proofs.text.put.Lts as lts
+use Rattle.words.proofs.ListLaws.{pasted-all}
+use Rattle.words.proofs.copy.Statement.{statement}
+use Rattle.words.proofs.copy.Tie as tie
 
 abbrev Inv-loop : tie.InvT-loop
 Inv-loop to₀ at s k₀ to k = (k ≤ length s) × (length to ≡ length to₀) × (to ≡ paste to₀ at s k)
@@ -17,46 +16,37 @@ Inv-loop to₀ at s k₀ to k = (k ≤ length s) × (length to ≡ length to₀)
 abbrev μ-loop : tie.MeasureT-loop
 μ-loop to₀ at s k₀ to k = length s - k
 
--- src/text.rt:14:5
 loop-holds : tie.Need-loop-holds Inv-loop μ-loop
 loop-holds c = (omega arith, refl, paste-zero (c .args .to .now) (c .args .at) (c .args .s .now))
 
--- src/text.rt:15:22
--- src/text.rt:15:12
--- src/text.rt:15:9
--- src/text.rt:16:9
--- src/text.rt:14:5
--- src/text.rt:14:5
 loop-again : tie.Need-loop-again Inv-loop μ-loop
 loop-again c =
-    let start = c .before .before .before in
     let at-loop = c .before .before in
-    let d : List ℕ = start .args .to .now in
-    let s : List ℕ = start .args .s .now in
-    let at : ℕ = start .args .at in
+    let a = at-loop .before .args in
+    let d : List ℕ = a .to .now in
+    let s : List ℕ = a .s .now in
+    let at : ℕ = a .at in
     let k : ℕ = at-loop .loop .k in
-    let room : at + k < length d = omega arith in (
+    let inside : at + k < length d = omega arith in (
       omega arith,
       simp length-set (at-loop .loop .inv .1),
       ap (λ (l : List ℕ). set l (at + k) (getD s k 0)) (at-loop .loop .inv .2)
-          ∙ paste-suc d at s k 0 room (c .before .loop-test .taken)
+          ∙ paste-suc d at s k 0 inside (c .before .loop-test .taken)
           ∙ ap (paste d at s) (sym (add-one k)),
     )
 
--- src/text.rt:18:5
--- src/text.rt:9:1
 same-length : tie.Need-same-length Inv-loop μ-loop
 same-length c = c .before .loop .inv .1
 
--- src/text.rt:9:1
 returns : tie.Need-returns Inv-loop μ-loop
 returns c =
-    let args = c .before .before .args in
-    let past : c .before .loop .k ≡ length (args .s .now) = omega arith in
-    (refl, c .before .loop .inv .2 ∙ ap (paste (args .to .now) (args .at) (args .s .now)) past)
+    let start = c .before .before in
+    let a = start .args in
+    let past : c .before .loop .k ≡ length (a .s .now) = omega arith in
+    c .before .loop .inv .2 ∙ ap (paste (a .to .now) (a .at) (a .s .now)) past ∙ pasted-all (a .to .now) (a .at) (a .s .now) (omega arith)
 
-pub put-spec : {M : Type 1} → statement M
-put-spec =
+pub copy-spec : {M : Type 1} → statement M
+copy-spec =
     tie.close (tie.spec
     Inv-loop μ-loop loop-holds (λ c. omega arith) (λ c. omega arith) (λ c. omega arith) (λ c. omega arith) (λ c. omega arith)
-    loop-again (λ c. omega arith) same-length returns)
+    loop-again same-length returns)
