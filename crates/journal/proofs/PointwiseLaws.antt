@@ -23,11 +23,11 @@ at w p = pixelIndex w (p .x) (p .y)
 abbrev pub Off : ℕ → ℕ → List Point → Type 0
 Off w k ps = All (λ (p : Point). k ≢ at w p) ps
 
-all-append : {A : Type 0} (P : A → Type 0) (l r : List A) → All P l → All P r → All P (l ++ r)
+pub all-append : {A : Type 0} (P : A → Type 0) (l r : List A) → All P l → All P r → All P (l ++ r)
 all-append P [] r a b = b
 all-append P (x ∷ l) r a b = (a .0, all-append P l r (a .1) b)
 
-all-held : {A : Type 0} (P : A → Type 0) (l : List A) (x : A) → All P l → List·Memᴰ x l → P x
+pub all-held : {A : Type 0} (P : A → Type 0) (l : List A) (x : A) → All P l → List·Memᴰ x l → P x
 all-held P (y ∷ l) x a (List·Memᴰ·head e) = subst P (sym e) (a .0)
 all-held P (y ∷ l) x a (List·Memᴰ·tail m) = all-held P l x (a .1) m
 
@@ -92,11 +92,11 @@ module _ (P : Point → Type 0) where
       (all-block x n (suc y) m (λ k j a b c d. h k j a b (omega arith) (omega arith)))
 
 module _ (w : ℕ) where
-  ascends-append : (l r : List Point) → Ascends w l → Ascends w r → All (λ (p : Point). After w (at w p) r) l → Ascends w (l ++ r)
+  pub ascends-append : (l r : List Point) → Ascends w l → Ascends w r → All (λ (p : Point). After w (at w p) r) l → Ascends w (l ++ r)
   ascends-append [] r a b c = b
   ascends-append (p ∷ l) r a b c = (all-append (λ (q : Point). at w p < at w q) l r (a .0) (c .0), ascends-append l r (a .1) b (c .1))
 
-  ascends-row : (x n y : ℕ) → Ascends w (row x n y)
+  pub ascends-row : (x n y : ℕ) → Ascends w (row x n y)
   unfolding row
   ascends-row x zero y = tt
   ascends-row x (suc n) y = (all-row _ (suc x) n y (λ k a b. omega arith), ascends-row (suc x) n y)
@@ -108,7 +108,7 @@ module _ (w : ℕ) where
       ascends-append (row x n y) (block x n (suc y) m) (ascends-row x n y) (ascends-block x n (suc y) m h)
       (all-row _ x n y (λ k a b. all-block _ x n (suc y) m (λ i j c d e g. omega (arith, h (omega arith), mul-le-mul-right w e, suc-mul y w))))
 
-holds-row : (x n y k : ℕ) → x ≤ k → k < x + n → Holds (row x n y) k y
+pub holds-row : (x n y k : ℕ) → x ≤ k → k < x + n → Holds (row x n y) k y
 unfolding row
 holds-row x zero y k a b = absurd (omega arith)
 holds-row x (suc n) y k a b =
