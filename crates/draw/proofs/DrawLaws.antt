@@ -1,9 +1,9 @@
 -- A row that is fetched and painted is drawn as the record's meaning says, because its pixels and bits are the meaning's. Assumes nothing.
-use mathlib.Core.Path.{_≡_, refl, sym, ap, ap₂, _∙_, subst}
+use mathlib.Core.Path.{_≡_, refl, sym, ap, _∙_, subst}
 use mathlib.Core.Bool.{Bool, true, false}
 use mathlib.Core.List.{List}
 use Prim.Native.Nat.{ℕ, _+_, _-_, _*_, _≤_, _<_}
-use native.Mathlib.Nat.{add-sub-cancel-left, mul-le-mul-left, mul-suc, mul-comm}
+use native.Mathlib.Nat.{mul-le-mul-left, mul-suc, mul-comm}
 use native.Mathlib.Omega.{arith}
 use lib.ListN.{length, getD, take}
 use lib.Seq.{sets, getD-take}
@@ -19,9 +19,10 @@ use Rattle.judge.specs.Good.{Good}
 use Rattle.region.specs.declared.Target.{Target}
 use Rattle.region.specs.Target.{row}
 use Rattle.journal.specs.Drawing.{Paint, drawn}
+use Rattle.journal.specs.Points.{AgreeOn}
 use Rattle.journal.specs.Records.{stride, Entry, bytesOf, saved}
 use Rattle.journal.proofs.RowLaws.{Rows, rows-turn}
-use Rattle.journal.proofs.AlikeLaws.{Alike, drawn-alike, saved-alike}
+use Rattle.journal.proofs.AlikeLaws.{drawn-alike, saved-alike, agree-row}
 use Rattle.composite.specs.declared.Rule.{Rule}
 use Rattle.composite.specs.Paints.{paintedBy, rowPaint, Painted}
 use Rattle.meaning.specs.Sampling.{sourceColumn, sourceShown, sourcePixel, maskShown, maskBit}
@@ -138,15 +139,13 @@ module _ (s : List ℕ) (p : Plan) (i : ℕ) (rule : Rule) (colours bits : List 
   abbrev paint : Paint
   paint = paintOn (p .target) (meaningIn s (p .record)) (p .brush)
 
-  row-alike : Alike (rowPaint rule colours bits x) paint x n y
-  row-alike q old l =
-      let index : ℕ = p .target .columns .index in
-      let back : x + q - x ≡ q = add-sub-cancel-left x q in
-      let column : index + q ≡ index + (x + q - x) = ap (λ (k : ℕ). index + k) (sym back) in
-      let line : p .target .rows .index + i ≡ p .target .rows .index + (y - p .target .rows .at) =
-      ap (λ (k : ℕ). p .target .rows .index + k) (sym (add-sub-cancel-left (p .target .rows .at) i)) in
-      λ u. paintedBy (e u) ((ap (λ (k : ℕ). getD colours k 0) back ∙ c q l ∙ ap₂ (sourcePixel s (p .record)) column line) u)
-      ((ap (λ (k : ℕ). getD bits k 0) back ∙ b q l ∙ ap₂ (maskBit s (p .record)) column line) u) old
+  row-alike : AgreeOn (rowPaint rule colours bits x) paint (row x n y)
+  row-alike = agree-row (rowPaint rule colours bits x) paint x n y (λ k old a h.
+      let q : ℕ = k - x in
+      let l : q < n = omega arith in
+      let line : p .target .rows .index + i ≡ p .target .rows .index + (y - p .target .rows .at) = omega arith in
+      λ u. paintedBy (e u) ((c q l ∙ ap (sourcePixel s (p .record) (p .target .columns .index + q)) line) u)
+      ((b q l ∙ ap (maskBit s (p .record) (p .target .columns .index + q)) line) u) old)
 
   -- a turn of the loop over the rows
   pub rows-more : (s₀ j₀ s1 j1 s2 j2 : List ℕ) (k c′ : ℕ) → PlanRows s p s₀ j₀ s1 j1 k i → i < p .target .rows .count → length colours ≡ c′ → c′ ≡ n
@@ -157,9 +156,9 @@ module _ (s : List ℕ) (p : Plan) (i : ℕ) (rule : Rule) (colours bits : List 
       let z : length colours ≡ n = long ∙ all in
       subst (λ (q : ℕ). PlanRows s p s₀ j₀ s2 j2 (k + q) (i + 1)) (sym all)
       (rows-turn w paint (p .at) x n (p .target .rows .at) (p .target .rows .count) s₀ j₀ s1 j1 s2 j2 k i r h
-      (painted .0 ∙ ap (λ (m : ℕ). drawn w f (row x m y) s1) z ∙ drawn-alike w f paint x n y s1 row-alike)
+      (painted .0 ∙ ap (λ (m : ℕ). drawn w f (row x m y) s1) z ∙ drawn-alike w f paint (row x n y) s1 row-alike)
       (painted .1 ∙ ap (λ (m : ℕ). sets j1 (k * stride) (bytesOf (saved w f (row x m y) s1))) z
-      ∙ ap (λ (es : List Entry). sets j1 (k * stride) (bytesOf es)) (saved-alike w f paint x n y s1 row-alike)))
+      ∙ ap (λ (es : List Entry). sets j1 (k * stride) (bytesOf es)) (saved-alike w f paint (row x n y) s1 row-alike)))
 
 -- ---- what is asked of a row within its rows: its pixels are on the surface, and its records in the journal
 

@@ -1,38 +1,30 @@
--- Two rules that agree on the places of a row draw it alike and save it alike. Assumes nothing.
-use mathlib.Core.Path.{_≡_, refl, ap, _∙_, subst}
-use mathlib.Core.List.{List, _∷_}
-use Prim.Native.Nat.{ℕ, zero, suc, _+_, _<_}
-use native.Mathlib.Nat.{add-zero}
-use native.Mathlib.Omega.{arith}
+-- Two rules that agree on a list's points draw it alike and save it alike, point after point. Assumes nothing.
+use mathlib.Core.Path.{_≡_, refl, ap, _∙_}
+use mathlib.Core.List.{List, [], _∷_}
+use Prim.Native.Nat.{ℕ, _+_, _≤_, _<_}
 use lib.ListN.{getD, set}
-use Rattle.region.specs.Target.{row}
+use Rattle.region.specs.Target.{Point, row}
 use Rattle.journal.specs.Drawing.{pixelIndex, Paint, dot, drawn}
+use Rattle.journal.specs.Points.{AgreeOn}
 use Rattle.journal.specs.Records.{Entry, entry, saved}
-
--- n places of row y from column x on
-abbrev pub Alike : (f g : Paint) (x n y : ℕ) → Type 0
-Alike f g x n y = (i old : ℕ) → i < n → f old (x + i) y ≡ g old (x + i) y
+use Rattle.journal.proofs.PointwiseLaws.{all-row}
 
 module _ (w : ℕ) (f g : Paint) where
-  first : (x n y : ℕ) (s : List ℕ) → Alike f g x (suc n) y → dot w f x y s ≡ dot w g x y s
-  first x n y s h =
-      let old : ℕ = getD s (pixelIndex w x y) 0 in
-      ap (set s (pixelIndex w x y)) (subst (λ (k : ℕ). f old k y ≡ g old k y) (add-zero x) (h 0 old (omega arith)))
+  first : (p : Point) (s : List ℕ) → ((old : ℕ) → f old (p .x) (p .y) ≡ g old (p .x) (p .y)) → dot w f (p .x) (p .y) s ≡ dot w g (p .x) (p .y) s
+  first p s h = let i : ℕ = pixelIndex w (p .x) (p .y) in ap (set s i) (h (getD s i 0))
 
-  rest : (x n y : ℕ) → Alike f g x (suc n) y → Alike f g (suc x) n y
-  rest x n y h i old l =
-      let e : x + suc i ≡ suc x + i = omega arith in
-      subst (λ (k : ℕ). f old k y ≡ g old k y) e (h (suc i) old (omega arith))
+  pub drawn-alike : (ps : List Point) (s : List ℕ) → AgreeOn f g ps → drawn w f ps s ≡ drawn w g ps s
+  unfolding drawn
+  drawn-alike [] s h = refl
+  drawn-alike (p ∷ ps) s h = drawn-alike ps (dot w f (p .x) (p .y) s) (h .1) ∙ ap (drawn w g ps) (first p s (h .0))
 
-  pub drawn-alike : (x n y : ℕ) (s : List ℕ) → Alike f g x n y → drawn w f (row x n y) s ≡ drawn w g (row x n y) s
-  unfolding drawn row
-  drawn-alike x zero y s h = refl
-  drawn-alike x (suc n) y s h =
-      drawn-alike (suc x) n y (dot w f x y s) (rest x n y h) ∙ ap (drawn w g (row (suc x) n y)) (first x n y s h)
+  pub saved-alike : (ps : List Point) (s : List ℕ) → AgreeOn f g ps → saved w f ps s ≡ saved w g ps s
+  unfolding saved
+  saved-alike [] s h = refl
+  saved-alike (p ∷ ps) s h =
+      ap (λ (l : List Entry). entry (p .x) (p .y) (getD s (pixelIndex w (p .x) (p .y)) 0) ∷ l)
+      (saved-alike ps (dot w f (p .x) (p .y) s) (h .1) ∙ ap (saved w g ps) (first p s (h .0)))
 
-  pub saved-alike : (x n y : ℕ) (s : List ℕ) → Alike f g x n y → saved w f (row x n y) s ≡ saved w g (row x n y) s
-  unfolding saved row
-  saved-alike x zero y s h = refl
-  saved-alike x (suc n) y s h =
-      ap (λ (l : List Entry). entry x y (getD s (pixelIndex w x y) 0) ∷ l)
-      (saved-alike (suc x) n y (dot w f x y s) (rest x n y h) ∙ ap (saved w g (row (suc x) n y)) (first x n y s h))
+-- a row, by its columns
+pub agree-row : (f g : Paint) (x n y : ℕ) → ((k old : ℕ) → x ≤ k → k < x + n → f old k y ≡ g old k y) → AgreeOn f g (row x n y)
+agree-row f g x n y h = all-row _ x n y (λ k a b old. h k old a b)

@@ -1,4 +1,5 @@
 pub mod All
 pub mod Drawing
+pub mod Points
 pub mod Records
 pub mod Restoring

@@ -10,7 +10,7 @@ use Rattle.region.specs.declared.Target.{Target}
 use Rattle.region.specs.declared.Rectangle.{Rectangle}
 use Rattle.region.specs.Axis.{within}
 use Rattle.region.specs.Written.{rectangleAt}
-use Rattle.region.specs.Target.{targetOf, pointsIn}
+use Rattle.region.specs.Target.{Point, targetOf, pointsIn}
 use Rattle.journal.specs.Drawing.{Paint, Work}
 use Rattle.composite.specs.declared.Rule.{Rule}
 use Rattle.composite.specs.declared.Rule.the-variants.{Blend0, Blend1, Raster, Masked}
@@ -61,18 +61,31 @@ termsAt s at = record { clip = rectangleAt s at; brush = le32 s (at + 16) }
 
 -- ---- drawing it
 
--- what a pixel of the clipped target t becomes
+-- what a play covers, whatever its shape: the points, in the order in which they are drawn, and of the point at x, y its column and
+-- its row in the whole target
+pub record Cover : Type 0 where
+  pub points : List Point
+  pub column : (x y : ℕ) → ℕ
+  pub row : (x y : ℕ) → ℕ
+
+-- the clipped target t, a rectangle
+abbrev pub coverIn : Target → Cover
+coverIn t = record { points = pointsIn t; column = λ x y. within (t .columns) x; row = λ x y. within (t .rows) y }
+
+-- what a pixel of the cover becomes
+abbrev pub paintBy : Cover → Meaning → (brush : ℕ) → Paint
+paintBy c k brush old x y =
+    paintedBy (k .rule brush) (k .source (c .column x y) (c .row x y)) (k .bit (c .column x y) (c .row x y)) old
+
 abbrev pub paintOn : Target → Meaning → (brush : ℕ) → Paint
-paintOn t k brush old x y =
-    paintedBy (k .rule brush) (k .source (within (t .columns) x) (within (t .rows) y)) (k .bit (within (t .columns) x) (within (t .rows) y)) old
+paintOn t k brush = paintBy (coverIn t) k brush
 
 abbrev pub targetIn : (width height : ℕ) → Meaning → (clip : Rectangle) → Target
 targetIn width height k clip = targetOf width height clip (k .bounds) (k .x) (k .y) (k .cx) (k .cy)
 
 -- the pixels that a play of it counts, and what each becomes
+abbrev pub workBy : Cover → Meaning → (brush : ℕ) → Work
+workBy c k brush = record { points = c .points; paint = paintBy c k brush; kind = k .kind }
+
 unfoldable pub workOf : (width height : ℕ) → Meaning → Terms → Work
-workOf width height k o = record {
-  points = pointsIn (targetIn width height k (o .clip));
-  paint = paintOn (targetIn width height k (o .clip)) k (o .brush);
-  kind = k .kind;
-}
+workOf width height k o = workBy (coverIn (targetIn width height k (o .clip))) k (o .brush)

@@ -21,16 +21,16 @@ use Rattle.judge.proofs.CheckLaws.{check-number}
 use Rattle.judge.proofs.AcceptedLaws.{accepted as accepted-is}
 use Rattle.region.specs.declared.Target.{Target}
 use Rattle.region.specs.declared.Rectangle.{Rectangle}
-use Rattle.region.specs.Target.{pointsIn, targetOf}
+use Rattle.region.specs.Target.{targetOf}
 use Rattle.region.proofs.TargetLaws.{OnBoth, inside, length-points}
-use Rattle.journal.specs.Drawing.{Work, drawn}
+use Rattle.journal.specs.Drawing.{Work}
 use Rattle.journal.specs.Records.{mark, stride, entryBytes, bytesOf, saved, closing}
 use Rattle.journal.proofs.RecordLaws.{length-bytes, bytes-append, length-saved}
 use Rattle.memory.specs.Memory.{memory, Outcome, outcome, settle, limits}
 use Rattle.memory.specs.Playing.{counted, drawnBy, appended, played, fullStatus, playOf}
 use Rattle.memory.proofs.LimitLaws.{passed}
 use Rattle.meaning.specs.declared.Terms.{Terms}
-use Rattle.meaning.specs.Meaning.{meaningIn, meaningOf, paintOn, workOf}
+use Rattle.meaning.specs.Meaning.{meaningIn, meaningOf, coverIn, workBy, workOf}
 use Rattle.draw.specs.declared.Plan.{Plan}
 use Rattle.draw.specs.Ready.{Drawn}
 use Rattle.player.specs.declared.Answer.{Answer}
@@ -84,7 +84,7 @@ pixels-few w h a b u clip n t f e =
 module _ (w h : ℕ) (s j : List ℕ) (u : ℕ) (r : List ℕ) (n : Record) (o : Terms) (t : Target)
     (f : limits w h (length s) (length j) u ≡ 0) (e : t ≡ targetOf w h (o .clip) (n .bounds) (n .x) (n .y) (n .cx) (n .cy)) where
   abbrev workOn : Target → Work
-  workOn t = record { points = pointsIn t; paint = paintOn t (meaningIn r n) (o .brush); kind = n .kind }
+  workOn t = workBy (coverIn t) (meaningIn r n) (o .brush)
 
   work-is : workOn t ≡ workOf w h (meaningIn r n) o
   unfolding workOf

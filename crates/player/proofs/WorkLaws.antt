@@ -1,7 +1,7 @@
 -- All that the journal's laws ask of a play's work: its places lie on the surface, and it makes 32-bit numbers of 32-bit numbers.
 -- Assumes nothing.
 use mathlib.Core.Bool.{Bool, true, false, cond}
-use Prim.Native.Nat.{ℕ, zero, suc, _+_, _^_, _≤_, _<_}
+use Prim.Native.Nat.{ℕ, _^_, _<_}
 use native.Mathlib.Omega.{arith}
 use lib.Dec.{eqb}
 use Rattle.pixel.specs.Round.{cut}
@@ -10,12 +10,12 @@ use Rattle.pixel.specs.Raster.{rasterPixel}
 use Rattle.pixel.proofs.RasterLaws.{raster-lt}
 use Rattle.region.specs.declared.Target.{Target}
 use Rattle.region.specs.Axis.{within}
-use Rattle.region.specs.Target.{row, block, pointsIn}
-use Rattle.region.proofs.TargetLaws.{On, inside}
+use Rattle.region.specs.Target.{pointsIn}
+use Rattle.region.proofs.TargetLaws.{OnBoth, inside}
 use Rattle.journal.specs.All.{All}
 pub use Rattle.journal.proofs.UndoLaws.{OnSurface}
 use Rattle.journal.proofs.UndoLaws.{Word}
-use Rattle.journal.proofs.PointwiseLaws.{all-append}
+use Rattle.journal.proofs.PointwiseLaws.{all-block}
 use Rattle.composite.specs.declared.Rule.{Rule}
 use Rattle.composite.specs.declared.Rule.the-variants.{Blend0, Blend1, Raster, Masked}
 use Rattle.composite.specs.Paints.{paintedBy}
@@ -24,29 +24,16 @@ use Rattle.player.specs.Calls.{Play, work}
 
 -- ---- the places
 
-row-on : (w h x n y : ℕ) → (1 ≤ n → x + n ≤ w) → y < h → All (OnSurface w h) (row x n y)
-unfolding row
-row-on w h x zero y ends b = tt
-row-on w h x (suc n) y ends b =
-    let e : x + suc n ≤ w = ends (omega arith) in
-    (record { column = omega arith; line = b }, row-on w h (suc x) n y (λ m. omega arith) b)
-
-block-on : (w h x n y m : ℕ) → (1 ≤ n → x + n ≤ w) → (1 ≤ m → y + m ≤ h) → All (OnSurface w h) (block x n y m)
-unfolding block
-block-on w h x n y zero across down = tt
-block-on w h x n y (suc m) across down =
-    let e : y + suc m ≤ h = down (omega arith) in
-    all-append (OnSurface w h) (row x n y) (block x n (suc y) m) (row-on w h x n y across (omega arith))
-    (block-on w h x n (suc y) m across (λ k. omega arith))
-
-target-on : (w h : ℕ) (t : Target) → On w (t .columns) × On h (t .rows) → All (OnSurface w h) (pointsIn t)
-target-on w h t on = block-on w h (t .columns .at) (t .columns .count) (t .rows .at) (t .rows .count) (on .0 .ends) (on .1 .ends)
+target-on : (w h cx cy : ℕ) (t : Target) → OnBoth w h cx cy t → All (OnSurface w h) (pointsIn t)
+target-on w h cx cy t on =
+    all-block (OnSurface w h) (t .columns .at) (t .columns .count) (t .rows .at) (t .rows .count)
+    (λ x y a b c d. record { column = omega (arith, on .columns .ends (omega arith)); line = omega (arith, on .rows .ends (omega arith)) })
 
 pub points-on : (w h : ℕ) (p : Play) → All (OnSurface w h) (work w h p .points)
 unfolding work workOf
 points-on w h p =
     let k : Meaning = meaningOf (p .bytes) in
-    target-on w h (targetIn w h k (p .terms .clip)) (inside w h (p .terms .clip) (k .bounds) (k .x) (k .y) (k .cx) (k .cy))
+    target-on w h (k .cx) (k .cy) (targetIn w h k (p .terms .clip)) (inside w h (p .terms .clip) (k .bounds) (k .x) (k .y) (k .cx) (k .cy))
 
 -- ---- the pixels
 
