@@ -14,6 +14,7 @@ pub mod region;
 
 pub mod blend;
 pub mod dib;
+pub mod input;
 pub mod journal;
 pub mod raster;
 
@@ -29,8 +30,11 @@ pub mod reading;
 pub mod pile;
 pub mod script;
 
+pub mod list;
+
 pub use answer::Answer;
 pub use dib::Part;
+pub use list::{run, Ran};
 pub use pile::Pile;
 pub use play::play;
 pub use reading::{reading, Reading};
