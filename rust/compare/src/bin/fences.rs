@@ -229,6 +229,7 @@ impl Bench {
             // The long ones have a part of their own.
             Case::LongRecord(stage, play, _) => self.list(stage, &[Step::Play(play.clone())]),
             Case::LongJournal(..) => Ok(()),
+            Case::Run(_) => Ok(()),
         }
     }
 
