@@ -2,6 +2,7 @@
 
 use crate::makers::{self, Aim};
 use crate::random::Random;
+use crate::runs::{self, Run};
 use face::constants::{JOURNAL_RECORD, MOST_JOURNAL, MOST_RECORD, MOST_SIDE};
 use records::places::SIZE;
 use records::{bytes, ALPHABLEND, MASKBLT, STRETCHDIBITS};
@@ -53,13 +54,18 @@ pub enum Case {
     LongRecord(Stage, Play, usize),
     /// A journal around the longest: zeros, of this length. The stage's own journal is not used.
     LongJournal(Stage, Vec<Step>, usize),
+    /// A run of a list.
+    Run(Run),
 }
+
+/// The cases from this number on are runs. None of the others counts so far.
+pub const RUNS: u64 = 1_000_000_000_000;
 
 pub fn surface(r: &mut Random, pixels: usize) -> Vec<u32> {
     r.bytes(4 * pixels).chunks_exact(4).map(|b| u32::from_le_bytes([b[0], b[1], b[2], b[3]])).collect()
 }
 
-fn sides(r: &mut Random) -> (u32, u32) {
+pub fn sides(r: &mut Random) -> (u32, u32) {
     let side = |r: &mut Random, most: i64| r.between(1, most) as u32;
     match r.below(300) {
         0..=1 => (4_096, side(r, 2)),
@@ -74,12 +80,12 @@ fn sides(r: &mut Random) -> (u32, u32) {
     }
 }
 
-fn small_sides(r: &mut Random) -> (u32, u32) {
+pub fn small_sides(r: &mut Random) -> (u32, u32) {
     (r.between(1, 16) as u32, r.between(1, 16) as u32)
 }
 
 /// Sides and pixels lent that status 1 is about; some are just lawful.
-fn odd_surface(r: &mut Random) -> (u32, u32, usize) {
+pub fn odd_surface(r: &mut Random) -> (u32, u32, usize) {
     let (w, h) = small_sides(r);
     let right = (w * h) as usize;
     match r.below(12) {
@@ -169,12 +175,12 @@ fn room(r: &mut Random, need: u64) -> (u64, u64) {
     (used, free)
 }
 
-fn lead(r: &mut Random) -> [usize; 3] {
+pub fn lead(r: &mut Random) -> [usize; 3] {
     [r.below(4) as usize, r.below(16) as usize, r.below(8) as usize]
 }
 
 /// Bytes that are no whole journal record.
-fn part_of_record(r: &mut Random) -> usize {
+pub fn part_of_record(r: &mut Random) -> usize {
     1 + r.below(JOURNAL_RECORD as u64 - 1) as usize
 }
 
@@ -291,7 +297,7 @@ fn read(r: &mut Random) -> Case {
     Case::Read(record, mask)
 }
 
-fn steps(r: &mut Random, sides: (u32, u32), most: u64, sound_percent: u64) -> Vec<Step> {
+pub fn steps(r: &mut Random, sides: (u32, u32), most: u64, sound_percent: u64) -> Vec<Step> {
     let undo_percent = r.pick(&[15, 30, 45]);
     (0..1 + r.below(most))
         .map(
@@ -388,6 +394,9 @@ fn long_journal(r: &mut Random) -> Case {
 /// The case of this seed and number.
 pub fn case(seed: u64, number: u64) -> Case {
     let mut r = Random::of(seed, number);
+    if number >= RUNS {
+        return Case::Run(runs::run(&mut r));
+    }
     match r.below(100) {
         0..=35 => single_play(&mut r),
         36..=53 => single_undo(&mut r),
@@ -488,6 +497,7 @@ impl fmt::Display for Case {
                 write!(f, "list of {} calls, journal of {length} zero bytes\n{stage}", steps.len())?;
                 print_steps(f, steps)
             }
+            Case::Run(run) => write!(f, "{run}"),
         }
     }
 }

@@ -2,6 +2,7 @@
 
 use crate::calls::{Case, Play, Stage, Step, JOURNAL_BUFFER, MOST_RECORDS, RECORD_BUFFER};
 use crate::library;
+use crate::runs::Run;
 use crate::tally::{Call, Tally};
 use face::constants::{HEADER_AT, JOURNAL_RECORD, MOST_RECORD, NUMBERS, VIEW_AT};
 use second::{Answer, Clip, Pile};
@@ -235,6 +236,7 @@ impl Judge {
             }
             Case::LongRecord(stage, play, length) => self.long_record(stage, play, *length),
             Case::LongJournal(stage, steps, length) => self.long_journal(stage, steps, *length),
+            Case::Run(run) => self.list_run(run),
         }
     }
 
@@ -344,6 +346,45 @@ impl Judge {
             long.second[part].fill(0);
         }
         self.long = Some(long);
+        Ok(())
+    }
+
+    /// A list, run by the library and by the second player's pile.
+    fn list_run(&mut self, run: &Run) -> Result<(), String> {
+        let stage = &run.stage;
+        let (w, h) = (stage.width, stage.height);
+        let list = Lent::new(&run.list, stage.lead[2], AROUND);
+        let mut surface = Lent::new(&stage.surface, stage.lead[0], AROUND_PIXEL);
+        let mut journal = Lent::new(&stage.journal, stage.lead[1], AROUND);
+        let mut answers = Lent::new(&run.answers, stage.lead[0], AROUND_PIXEL);
+        let got = library::run(surface.get_mut(), w, h, journal.get_mut(), list.get(), answers.get_mut());
+
+        let (mut surface_wanted, mut journal_wanted) = (stage.surface.clone(), stage.journal.clone());
+        let mut answers_wanted = run.answers.clone();
+        let wanted = second::run(&mut surface_wanted, w, h, &mut journal_wanted, &run.list, &mut answers_wanted);
+        if self.talk {
+            println!("run: library {got:?}, answers {:?}", answers.get());
+            println!("second player {wanted:?}, answers {answers_wanted:?}");
+        }
+        same("status", got.status, wanted.status)?;
+        same("calls", got.calls, wanted.calls)?;
+        same("records in use", got.used, wanted.used)?;
+        same_all("answers and what is behind them", answers.get(), &answers_wanted)?;
+        same_all("surface", surface.get(), &surface_wanted)?;
+        same_all("journal", journal.get(), &journal_wanted)?;
+        same_all("list after the run", list.get(), &run.list)?;
+        surface.around_stays("surface")?;
+        journal.around_stays("journal")?;
+        answers.around_stays("answers")?;
+        if got.status != 0 {
+            // Not only as the second player has it, but as it was.
+            same("calls and records in use of a refused run", (got.calls, got.used), (0, 0))?;
+            same_all("answers after a refused run", answers.get(), &run.answers)?;
+            same_all("surface after a refused run", surface.get(), &stage.surface)?;
+            same_all("journal after a refused run", journal.get(), &stage.journal)?;
+        }
+        let made = 2 * got.calls as usize;
+        self.tally.ran(got.status, run.damage, &answers.get()[..made]);
         Ok(())
     }
 

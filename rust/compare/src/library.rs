@@ -1,6 +1,6 @@
 //! The library's calls with the second player's types, so that answers can be compared.
 
-use second::{Answer, Clip};
+use second::{Answer, Clip, Ran};
 
 pub use face::{palette, read};
 
@@ -25,4 +25,9 @@ pub fn play(
 
 pub fn undo(surface: &mut [u32], width: u32, height: u32, journal: &[u8], used: &mut u64) -> Answer {
     answer(face::undo(surface, width, height, journal, used))
+}
+
+pub fn run(surface: &mut [u32], width: u32, height: u32, journal: &mut [u8], list: &[u8], answers: &mut [u32]) -> Ran {
+    let face::Ran { status, calls, used } = face::run(surface, width, height, journal, list, answers);
+    Ran { status, calls, used }
 }

@@ -33,13 +33,16 @@ pub fn one(judge: &mut Judge, seed: u64, case: u64) -> Result<(), Difference> {
     }
 }
 
-/// Cases 0, 1, 2, ... of a seed until at least so many calls are made.
-pub fn many(judge: &mut Judge, seed: u64, calls: u64) -> Result<Tally, Difference> {
+/// Cases 0, 1, 2, ... of a seed until at least so many calls are made, and so many runs of lists.
+pub fn many(judge: &mut Judge, seed: u64, calls: u64, runs: u64) -> Result<Tally, Difference> {
     judge.tally = Tally::default();
     let mut case = 0;
     while judge.tally.calls < calls {
         one(judge, seed, case)?;
         case += 1;
+    }
+    for run in 0..runs {
+        one(judge, seed, calls::RUNS + run)?;
     }
     judge.finish().map_err(|text| Difference { seed, case, text })?;
     Ok(std::mem::take(&mut judge.tally))

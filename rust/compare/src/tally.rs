@@ -1,5 +1,6 @@
 //! What a run has made: how often each status was given, and which shapes of record were drawn.
 
+use crate::runs::{Damage, DAMAGES};
 use second::record::{Operation, Sound};
 use std::fmt;
 
@@ -20,6 +21,9 @@ fn possible(call: Call, status: usize) -> bool {
 }
 
 const CALLS: [Call; 3] = [Call::Play, Call::Undo, Call::Read];
+/// The statuses of a run, and those of the calls in it.
+const RUN_STATUSES: [u32; 5] = [0, 1, 2, 29, 30];
+const INNER_STATUSES: [usize; 14] = [0, 3, 4, 5, 6, 7, 8, 9, 10, 11, 12, 13, 14, 15];
 const DEPTHS: [i64; 6] = [1, 4, 8, 16, 24, 32];
 const KINDS: [&str; 3] = ["0x72", "0x4E", "0x51"];
 
@@ -49,6 +53,13 @@ pub struct Tally {
     orders: [u64; 2],
     /// Plays that mirror columns, rows.
     mirrored: [u64; 2],
+    /// Runs of lists, by status.
+    pub runs: u64,
+    ran: [u64; 5],
+    /// The calls that they made, by status.
+    inner: [u64; 17],
+    /// Lists that were refused, by what was done to them.
+    damaged: [u64; DAMAGES.len()],
 }
 
 impl Default for Tally {
@@ -69,6 +80,10 @@ impl Default for Tally {
             headers: [0; 2],
             orders: [0; 2],
             mirrored: [0; 2],
+            runs: 0,
+            ran: [0; 5],
+            inner: [0; 17],
+            damaged: [0; DAMAGES.len()],
         }
     }
 }
@@ -82,6 +97,20 @@ impl Tally {
     /// How often this call gave this status.
     pub fn given(&self, call: Call, status: usize) -> u64 {
         self.given[call as usize][status]
+    }
+
+    /// A run of a list, with the answers of its calls.
+    pub fn ran(&mut self, status: u32, damage: Option<Damage>, answers: &[u32]) {
+        self.runs += 1;
+        if let Some(k) = RUN_STATUSES.iter().position(|&s| s == status) {
+            self.ran[k] += 1;
+        }
+        for answer in answers.chunks_exact(2) {
+            self.inner[(answer[0] as usize).min(16)] += 1;
+        }
+        if let (29, Some(damage)) = (status, damage) {
+            self.damaged[damage as usize] += 1;
+        }
     }
 
     /// An accepted play, for the list of shapes.
@@ -145,6 +174,10 @@ impl Tally {
         sum(&mut self.headers, &other.headers);
         sum(&mut self.orders, &other.orders);
         sum(&mut self.mirrored, &other.mirrored);
+        self.runs += other.runs;
+        sum(&mut self.ran, &other.ran);
+        sum(&mut self.inner, &other.inner);
+        sum(&mut self.damaged, &other.damaged);
     }
 
     /// What was given fewer than `least` times: each status, by each call that can give it, and the two that need
@@ -167,6 +200,32 @@ impl Tally {
         }
         rare
     }
+
+    /// The same of the runs; each status of a call in them, and each damage, is asked for `inner` times.
+    pub fn rare_runs(&self, least: u64, inner: u64) -> Vec<String> {
+        let mut rare = Vec::new();
+        for (status, &n) in RUN_STATUSES.iter().zip(&self.ran) {
+            if n < least {
+                rare.push(format!("status {status} by a run only {n} times"));
+            }
+        }
+        for status in INNER_STATUSES {
+            if self.inner[status] < inner {
+                rare.push(format!("status {status} by a call of a run only {} times", self.inner[status]));
+            }
+        }
+        for (damage, &n) in DAMAGES.iter().zip(&self.damaged) {
+            if n < inner {
+                rare.push(format!("status 29 by {damage:?} only {n} times"));
+            }
+        }
+        rare
+    }
+}
+
+/// Numbers under their names.
+fn named<N: fmt::Display>(row: impl Iterator<Item = (N, u64)>) -> String {
+    row.map(|(name, n)| format!("{name}: {n}")).collect::<Vec<_>>().join(", ")
 }
 
 impl fmt::Display for Tally {
@@ -209,9 +268,12 @@ impl fmt::Display for Tally {
         writeln!(f, "  bottom-up {}, top-down {}", self.orders[0], self.orders[1])?;
         writeln!(f, "  mirrored columns {}, rows {}", self.mirrored[0], self.mirrored[1])?;
         for (name, row) in ["red", "green", "blue", "alpha"].iter().zip(&self.widths) {
-            let list: Vec<String> = row.iter().enumerate().map(|(w, n)| format!("{w}: {n}")).collect();
-            writeln!(f, "  {name} masks by width  {}", list.join(", "))?;
+            writeln!(f, "  {name} masks by width  {}", named(row.iter().copied().enumerate()))?;
         }
+        writeln!(f, "runs by status  {}", named(RUN_STATUSES.into_iter().zip(self.ran)))?;
+        writeln!(f, "  their calls by status  {}", named(INNER_STATUSES.into_iter().map(|s| (s, self.inner[s]))))?;
+        let damages = DAMAGES.iter().map(|damage| format!("{damage:?}"));
+        writeln!(f, "  29 by the list's damage  {}", named(damages.zip(self.damaged)))?;
         Ok(())
     }
 }

@@ -7,8 +7,8 @@ use compare::run;
 use face::constants::MOST_RECORD;
 
 #[test]
-fn two_thousand_calls() {
-    match run::many(&mut Judge::default(), 2, 2_000) {
+fn two_thousand_calls_and_five_hundred_runs() {
+    match run::many(&mut Judge::default(), 2, 2_000, 500) {
         Ok(tally) => println!("{tally}"),
         Err(difference) => panic!("{difference}"),
     }

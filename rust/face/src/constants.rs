@@ -26,6 +26,8 @@ pub const BAD_MASK: u32 = 13;
 pub const NO_ROOM: u32 = 14;
 pub const NOTHING: u32 = 15;
 pub const BAD_CLOSING: u32 = 16;
+pub const BAD_LIST: u32 = 29;
+pub const FEW_ANSWERS: u32 = 30;
 
 /// The numbers of a reading, by their place.
 pub const HEADER_AT: usize = 0;

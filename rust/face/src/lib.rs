@@ -24,6 +24,14 @@ pub struct Answer {
     pub pixels: u32,
 }
 
+/// What a run answers: its status, how many calls were made, and the journal's records in use afterwards.
+#[derive(Clone, Copy, Debug, PartialEq, Eq)]
+pub struct Ran {
+    pub status: u32,
+    pub calls: u32,
+    pub used: u64,
+}
+
 #[allow(clippy::too_many_arguments)]
 pub fn play(
     surface: &mut [u32],
@@ -76,6 +84,30 @@ pub fn undo(surface: &mut [u32], width: u32, height: u32, journal: &[u8], used: 
         )
     };
     Answer { status, pixels }
+}
+
+/// Runs a list of plays and undos on a journal that has no record in use. `answers` gets two numbers of each call: its
+/// status and its pixels.
+pub fn run(surface: &mut [u32], width: u32, height: u32, journal: &mut [u8], list: &[u8], answers: &mut [u32]) -> Ran {
+    let (mut used, mut calls) = (UNWRITTEN as u64, UNWRITTEN);
+    // SAFETY: as for `play`; the list is only read.
+    let status = unsafe {
+        raw::lacrumont_run(
+            surface.as_mut_ptr(),
+            surface.len(),
+            width,
+            height,
+            journal.as_mut_ptr(),
+            journal.len(),
+            list.as_ptr(),
+            list.len(),
+            answers.as_mut_ptr(),
+            answers.len(),
+            &mut used,
+            &mut calls,
+        )
+    };
+    Ran { status, calls, used }
 }
 
 /// The status and the numbers of a reading: of the source where `mask` is 0, else of the mask.

@@ -1,8 +1,8 @@
-//! The four calls on document 01's whole play and on one picture.
+//! The calls on document 01's whole play and on one picture.
 
 use face::constants::*;
-use face::{palette, play, read, undo, Answer, Clip};
-use records::{operation, Header, Picture, Record, STRETCHDIBITS};
+use face::{palette, play, read, run, undo, Answer, Clip, Ran};
+use records::{bytes::words, operation, Header, Picture, Record, STRETCHDIBITS};
 
 const WHOLE: Clip = Clip { left: 0, top: 0, right: 2, bottom: 1 };
 const START: [u32; 2] = [0xFF00_0000, 0xFF00_00FF];
@@ -39,6 +39,41 @@ fn refusals() {
     assert_eq!(undo(&mut surface, 2, 1, &[], &mut used), refused(NOTHING));
     assert_eq!(undo(&mut [], 0, 0, &[], &mut used), refused(BAD_SURFACE));
     assert_eq!((surface, used), (START, 0));
+}
+
+/// The whole play and two undos as a list.
+fn list() -> Vec<u8> {
+    let record = brush_record();
+    let head = words(&[3, 1, 0, 0, 2, 1, 0x112233, 0, record.len() as u32]);
+    [head, record, words(&[2, 2])].concat()
+}
+
+#[test]
+fn a_run() {
+    let (mut surface, mut journal, mut answers) = (START, [0; 3 * JOURNAL_RECORD], [7; 7]);
+    let ran = Ran { status: OK, calls: 3, used: 0 };
+    assert_eq!(run(&mut surface, 2, 1, &mut journal, &list(), &mut answers), ran);
+    assert_eq!((surface, answers), (START, [OK, 2, OK, 2, NOTHING, 0, 7]));
+    assert_eq!(journal[24..], words(&[u32::MAX, 2, STRETCHDIBITS]));
+}
+
+#[test]
+fn refused_runs() {
+    let list = list();
+    let cut = &list[..list.len() - 1];
+    let cases: [(u32, usize, &[u8], usize, u32); 5] = [
+        (3, 36, &list, 6, BAD_SURFACE),
+        (2, 35, &list, 6, BAD_JOURNAL),
+        (2, 36, cut, 6, BAD_LIST),
+        (2, 36, &[], 0, BAD_LIST),
+        (2, 36, &list, 5, FEW_ANSWERS),
+    ];
+    for (width, length, list, room, status) in cases {
+        let (mut surface, mut journal, mut answers) = (START, vec![0; length], vec![7; room]);
+        let got = run(&mut surface, width, 1, &mut journal, list, &mut answers);
+        assert_eq!(got, Ran { status, calls: 0, used: 0 });
+        assert_eq!((surface, journal, answers), (START, vec![0; length], vec![7; room]));
+    }
 }
 
 #[test]

@@ -3,11 +3,12 @@
 //!
 //! Lowest first: `bytes` stores numbers, `places` says where a field stands, `dib` makes a picture's two parts, `fixed`
 //! writes a fixed part over any bytes, `operation` packs its operation field, `record` puts a whole record together.
-//! `script` writes scripts around records.
+//! `script` writes scripts around records, `list` lists of calls.
 
 pub mod bytes;
 pub mod dib;
 pub mod fixed;
+pub mod list;
 pub mod operation;
 pub mod places;
 pub mod record;
@@ -15,6 +16,7 @@ pub mod script;
 
 pub use dib::{Header, Picture};
 pub use fixed::{Fixed, Parts};
+pub use list::List;
 pub use places::{ALPHABLEND, MASKBLT, STRETCHDIBITS};
 pub use record::Record;
 pub use script::Script;

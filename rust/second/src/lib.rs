@@ -3,6 +3,7 @@
 //! It is slow and plain: one pixel at a time, wide integers, no tables.
 //! Words in quotation marks are document 01's, unless another is named;
 //! A1 to A41 are the entries of the open points.
+//! The layout of lists is the C header's.
 //!
 //! The modules stand in layers: each uses only those of the groups above its own.
 
@@ -14,6 +15,7 @@ pub mod region;
 
 pub mod blend;
 pub mod dib;
+pub mod input;
 pub mod journal;
 pub mod raster;
 
@@ -29,8 +31,11 @@ pub mod reading;
 pub mod pile;
 pub mod script;
 
+pub mod list;
+
 pub use answer::Answer;
 pub use dib::Part;
+pub use list::{run, Ran};
 pub use pile::Pile;
 pub use play::play;
 pub use reading::{reading, Reading};

@@ -3,7 +3,7 @@
 
 use crate::answer::Answer;
 use crate::dib::Part;
-use crate::fields::{signed, unsigned};
+use crate::input::{Bad, Input};
 use crate::play::play;
 use crate::reading::reading;
 use crate::region::Clip;
@@ -47,36 +47,7 @@ pub fn fill(seed: u32, k: u32) -> u8 {
     (place * 2_654_435_761 % 4_294_967_296 / 16_777_216) as u8
 }
 
-/// A script's fault.
-struct Bad;
-
-struct Input<'a> {
-    bytes: &'a [u8],
-    at: usize,
-}
-
 impl<'a> Input<'a> {
-    fn take(&mut self, length: usize) -> Result<&'a [u8], Bad> {
-        if self.bytes.len() - self.at < length {
-            return Err(Bad);
-        }
-        let part = &self.bytes[self.at..self.at + length];
-        self.at += length;
-        Ok(part)
-    }
-
-    /// "a row of 32-bit little-endian numbers ("words")"
-    fn word(&mut self) -> Result<u32, Bad> {
-        let b = self.take(4)?;
-        Ok(unsigned(b, 0) as u32)
-    }
-
-    /// "Signed arguments (clip, search rectangle) are in two's complement."
-    fn signed(&mut self) -> Result<i32, Bad> {
-        let b = self.take(4)?;
-        Ok(signed(b, 0) as i32)
-    }
-
     /// "Byte data is written as a word `L`, then `L` bytes, then zero bytes up
     /// to the next multiple of 4".  The text says zero bytes, so others are a
     /// fault.
@@ -91,10 +62,6 @@ impl<'a> Input<'a> {
             return Err(Bad);
         }
         Ok(bytes)
-    }
-
-    fn at_end(&self) -> bool {
-        self.at == self.bytes.len()
     }
 }
 
@@ -278,7 +245,7 @@ fn call(input: &mut Input, s: &mut State, out: &mut dyn Write) -> Result<io::Res
 /// Runs a whole script.  What was printed before a fault stays printed; then
 /// comes the line `bad script`.  True for a good script.
 pub fn run(bytes: &[u8], out: &mut dyn Write) -> io::Result<bool> {
-    let mut input = Input { bytes, at: 0 };
+    let mut input = Input::new(bytes);
     let mut state = match head(&mut input) {
         Ok(state) => state,
         Err(Bad) => {

@@ -4,7 +4,9 @@ use compare::judge::{same_all, same_reading};
 use compare::makers::largest;
 use compare::{arguments, calls, library, memory, random::Random};
 use face::constants::{JOURNAL_RECORD, MOST_RECORD, MOST_SIDE as SIDE};
-use second::{Answer, Clip};
+use face::UNWRITTEN;
+use records::List;
+use second::{Answer, Clip, Ran};
 use std::process::ExitCode;
 use std::time::Instant;
 
@@ -14,9 +16,9 @@ largest [--seed S]
 Plays the longest records (16,777,216 bytes, one of each type) onto the largest
 surface (4,096 by 4,096) with the longest journal (20,000,000 records), undoes
 them, and compares with the second player: answers, the whole surface, the whole
-journal, readings. A record of 4 bytes more and a journal of one record more
-must be refused. Takes about a quarter of a minute, nearly all of it the second
-player's, and 1 GB of memory.
+journal, readings. A list of two such records is run by both as well. A record of
+4 bytes more and a journal of one record more must be refused. Takes about a
+quarter of a minute, nearly all of it the second player's, and 1.2 GB of memory.
 
   --seed S   other bytes in records and surface (1 if not said)
 ";
@@ -56,6 +58,32 @@ impl Both {
         let start = Instant::now();
         let said = second::undo(&mut t.surface, SIDE, SIDE, &t.journal, &mut t.used);
         self.compare("undo", got, said, wanted, ours, start.elapsed())
+    }
+
+    /// A list, run by both; `answers` are the wanted ones.
+    fn run(&mut self, name: &str, list: &[u8], wanted: Ran, answers: &[u32]) -> Result<(), String> {
+        let (o, t) = (&mut self.ours, &mut self.theirs);
+        let (mut got_answers, mut said_answers) = (vec![UNWRITTEN; answers.len()], vec![UNWRITTEN; answers.len()]);
+        let start = Instant::now();
+        let got = library::run(&mut o.surface, SIDE, SIDE, &mut o.journal, list, &mut got_answers);
+        let ours = start.elapsed();
+        let start = Instant::now();
+        let said = second::run(&mut t.surface, SIDE, SIDE, &mut t.journal, list, &mut said_answers);
+        println!(
+            "{name}: status {}, {} calls, {} records in use; library {:.3} s, second player {:.2} s",
+            got.status,
+            got.calls,
+            got.used,
+            ours.as_secs_f64(),
+            start.elapsed().as_secs_f64()
+        );
+        if got != wanted || said != wanted {
+            return Err(format!("{name}: wanted {wanted:?}, library {got:?}, second player {said:?}"));
+        }
+        same_all("answers", &got_answers, answers)?;
+        same_all("answers", &said_answers, answers)?;
+        same_all("surface", &self.ours.surface, &self.theirs.surface)?;
+        same_all("journal", &self.ours.journal, &self.theirs.journal)
     }
 
     fn count(&mut self, used: u64) {
@@ -147,12 +175,25 @@ fn all(seed: u64) -> Result<(), String> {
     both.undo(full)?;
     same_all("surface after the undo", &both.ours.surface, &start)?;
 
+    // A list of two longest records: the first undone, and one undo too many; the second in the last rows.
+    let mut list = List::default();
+    let whole = [ALL.left, ALL.top, ALL.right, ALL.bottom];
+    let low_rows = [clip.left, clip.top, clip.right, clip.bottom];
+    list.play(whole, 7, 0, &record, 0);
+    list.undo();
+    list.undo();
+    list.play(low_rows, 7, 0, &record, 0);
+    let low = (rows * SIDE as u64) as u32;
+    let ran = Ran { status: 0, calls: 4, used: low as u64 + 1 };
+    both.run("run of 0x4E", &list.bytes, ran, &[0, PIXELS as u32, 0, PIXELS as u32, 15, 0, 0, low])?;
+
     // A journal of one record more than the most.
     for held in [&mut both.ours, &mut both.theirs] {
         held.journal.resize(calls::LONGEST_JOURNAL + JOURNAL_RECORD, 0);
     }
     both.play("0x4E, journal of 20,000,001 records", &record, ALL, refused(2))?;
-    both.undo(refused(2))
+    both.undo(refused(2))?;
+    both.run("run, journal of 20,000,001 records", &list.bytes, Ran { status: 2, calls: 0, used: 0 }, &[UNWRITTEN; 8])
 }
 
 fn main() -> ExitCode {

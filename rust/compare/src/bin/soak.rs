@@ -13,13 +13,15 @@ Does what differ does, round after round, each with a new seed, until M minutes
 are over (10 if not said). The round in hand is finished.
 
   --minutes M   how long
-  --calls N     calls of a round (200,000 if not said)
+  --calls N     calls of a round (200,000 if not said), and N / 20 runs of lists
   --seed S      the first round's seed, the next ones count on from it (taken
                 from the clock if not said)
 
 Every round prints its seed, so that differ --seed S --one K can show a case
 again. At the first difference it ends with 1.
 ";
+
+const CALLS_A_RUN: u64 = 20;
 
 fn main() -> ExitCode {
     let [minutes, calls, seed] = arguments::numbers(["--minutes", "--calls", "--seed"], HELP);
@@ -34,7 +36,7 @@ fn main() -> ExitCode {
     let mut rounds = 0;
     while start.elapsed() < time {
         let begin = Instant::now();
-        match run::many(&mut judge, seed, calls) {
+        match run::many(&mut judge, seed, calls, calls / CALLS_A_RUN) {
             Ok(tally) => {
                 println!("seed {seed}: {} calls, {:.1} seconds", tally.calls, begin.elapsed().as_secs_f64());
                 all.add(&tally);
@@ -49,8 +51,9 @@ fn main() -> ExitCode {
     }
     print!("{all}");
     println!(
-        "{rounds} rounds, {} calls in {} cases, {:.0} seconds, no difference",
+        "{rounds} rounds, {} calls and {} runs in {} cases, {:.0} seconds, no difference",
         all.calls,
+        all.runs,
         all.cases,
         start.elapsed().as_secs_f64()
     );
