@@ -10,18 +10,25 @@ use Rattle.journal.proofs.UndoLaws.{words-drawn}
 use Rattle.memory.specs.Memory.{Memory, memory, Outcome, limits, memoryStatus, records}
 use Rattle.memory.proofs.LimitLaws.{passed, limits-none}
 use Rattle.memory.proofs.PlayingLaws.{length-appended}
-use Rattle.memory.specs.Playing.{appended}
+use Rattle.memory.specs.Playing.{drawnBy, appended}
 use Rattle.player.specs.Calls.{Play, work}
 use Rattle.player.proofs.WorkLaws.{paints-pixels}
-use Rattle.history.specs.History.{answered, History, history, count, recordsUsed, drawnAll, surfaceOf, usedOf, Turn}
+use Rattle.history.specs.History.{answered, History, history, recordsUsed, drawnAll, surfaceOf, usedOf, Turn}
 use Rattle.history.specs.Lists.{Words32}
 
 -- ---- the surface and the journal of a history's plays
 
+-- a play is drawn over those below it
+pub drawn-over : (w h : ℕ) (p : Play) (below : List Play) (s : List ℕ)
+    → drawnAll w h (p ∷ below) s ≡ drawnBy w (work w h p) (drawnAll w h below s)
+unfolding drawnAll
+drawn-over w h p below s = refl
+
 length-drawnAll : (w h : ℕ) (ps : List Play) (s : List ℕ) → length (drawnAll w h ps s) ≡ length s
 unfolding drawnAll
 length-drawnAll w h [] s = refl
-length-drawnAll w h (p ∷ ps) s = length-drawn w (work w h p .paint) (work w h p .points) (drawnAll w h ps s) ∙ length-drawnAll w h ps s
+length-drawnAll w h (p ∷ ps) s =
+    ap length (drawn-over w h p ps s) ∙ length-drawn w (work w h p .paint) (work w h p .points) (drawnAll w h ps s) ∙ length-drawnAll w h ps s
 
 pub pixels-drawnAll : (w h : ℕ) (ps : List Play) (s : List ℕ) → Words32 s → Words32 (drawnAll w h ps s)
 unfolding drawnAll

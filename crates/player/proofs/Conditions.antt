@@ -1,6 +1,6 @@
 -- Conditions 1 and 2: a refused call is settled before anything is written, and an accepted play is drawn and journalled as `played` says, which
 -- `pixel-by-pixel` says of each pixel. Assumes nothing.
-use mathlib.Core.Path.{_≡_, refl, sym, ap, _∙_, subst}
+use mathlib.Core.Path.{_≡_, refl, sym, subst}
 use mathlib.Core.List.{List, [], _∷_, _++_}
 use Prim.Native.Nat.{ℕ, zero, suc, _+_, _-_, _*_, _/_, _≤_}
 use native.Mathlib.Omega.{arith}
@@ -11,7 +11,6 @@ use borrow.Author.Tests.{ltb-false}
 use Rattle.words.proofs.ChoiceLaws.{given-none, orElse-none}
 use Rattle.words.proofs.ListLaws.{getD-sets-before, getD-sets-behind, getD-sets-in}
 use Rattle.region.specs.declared.Target.{Target}
-use Rattle.journal.specs.Drawing.{Work}
 use Rattle.journal.specs.Records.{stride, Entry, bytesOf, closing}
 use Rattle.journal.proofs.RecordLaws.{length-bytes, length-drawn}
 use Rattle.judge.specs.Check.{statusOf}
@@ -20,7 +19,7 @@ use Rattle.memory.specs.Playing.{counted, drawnBy, appended, played, fullStatus
 use Rattle.memory.specs.Undoing.{undoStatus, undoOf}
 use Rattle.memory.proofs.LimitLaws.{Passed, passed}
 use Rattle.memory.proofs.PlayingLaws.{length-appended}
-use Rattle.meaning.specs.Meaning.{Meaning, meaningOf, targetIn, workOf}
+use Rattle.meaning.specs.Meaning.{meaningOf, targetIn, workOf}
 use Rattle.player.specs.Calls.{Play, work, playOutcome}
 use Rattle.player.specs.Pixels.{Pixels}
 use Rattle.player.specs.Conditions.{Settled, Condition1, Appended, recordsOf, Played, Judged, Condition2}

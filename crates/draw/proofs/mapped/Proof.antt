@@ -1,6 +1,5 @@
 -- The columns are filled as far as the row goes, which is what the rows ask for.
 use mathlib.Core.Path.{sym}
-use Prim.Native.Nat.{ℕ}
 use native.Mathlib.Omega.{arith}
 use lib.Seq.{length-take-le}
 use Rattle.meaning.proofs.FitLaws.{extents}

@@ -1,5 +1,5 @@
 -- 2 ^ bits grows with bits, and is 256 at 8.
-use Prim.Native.Nat.{_^_, _≤_}
+use Prim.Native.Nat.{_≤_}
 use native.Mathlib.Omega.{arith}
 use lib.Pow.{pow-mono}
 use borrow.Author.Needs.{needs}
