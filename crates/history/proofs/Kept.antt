@@ -66,7 +66,8 @@ framed w h s j b e =
       high = p .high .1;
       most = p .most;
       pixels = b;
-      passes = λ used le. sym (limits-none (record { wide = p .wide; high = p .high; pixels-are = p .pixels-are; whole = p .whole; most = p .most; enough = le }));
+      passes = λ used le. sym (limits-none
+          (record { wide = p .wide; high = p .high; pixels-are = p .pixels-are; whole = p .whole; most = p .most; enough = le }));
     }
 
 -- ---- the link, and one call

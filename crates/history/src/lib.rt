@@ -95,7 +95,8 @@ fn play_at(
     at: usize,
 ) -> Answer
     requires { ⌜ at + (32 + padded (le32 (now list) (at + 28))) ≤ length (now list) ⌝ }
-    ensures { λ r. ⌜ outcomeOf r (now (surface .exit)) (now (journal .exit)) ≡ playOutcome width height (playAt (now (list .entry)) at) (memory (now (surface .entry)) (now (journal .entry)) used) ⌝ }
+    ensures { λ r. ⌜ outcomeOf r (now (surface .exit)) (now (journal .exit))
+        ≡ playOutcome width height (playAt (now (list .entry)) at) (memory (now (surface .entry)) (now (journal .entry)) used) ⌝ }
 {
     let terms = meaning::read_terms(list, at + 4);
     let count = words::read_u32(list, at + 28) as usize;
@@ -114,7 +115,8 @@ fn call(
     at: usize,
 ) -> Answer
     requires { ⌜ (callLength (now list) at ≡ 0 → ⊥) ⌝ }
-    ensures { λ r. ⌜ outcomeOf r (now (surface .exit)) (now (journal .exit)) ≡ made width height (callAt (now (list .entry)) at) (memory (now (surface .entry)) (now (journal .entry)) used) ⌝ }
+    ensures { λ r. ⌜ outcomeOf r (now (surface .exit)) (now (journal .exit))
+        ≡ made width height (callAt (now (list .entry)) at) (memory (now (surface .entry)) (now (journal .entry)) used) ⌝ }
 {
     let kind = words::read_u32(list, at);
     if kind != 1 {
@@ -136,7 +138,8 @@ fn one(
     k: usize,
 ) -> Step
     requires { ⌜ (callLength (now list) at ≡ 0 → ⊥) × (k + 2 ≤ length (now answers)) ⌝ }
-    ensures { λ r. ⌜ Stepped width height (now (list .entry)) at (memory (now (surface .entry)) (now (journal .entry)) used) (memory (now (surface .exit)) (now (journal .exit)) (r .used)) k (now (answers .entry)) (now (answers .exit)) (r .at) ⌝ }
+    ensures { λ r. ⌜ Stepped width height (now (list .entry)) at (memory (now (surface .entry)) (now (journal .entry)) used)
+        (memory (now (surface .exit)) (now (journal .exit)) (r .used)) k (now (answers .entry)) (now (answers .exit)) (r .at) ⌝ }
 {
     let answer = call(surface, width, height, journal, used, list, at);
     answers[k] = answer.status;
@@ -159,8 +162,10 @@ fn all(
     answers: &mut [u32],
 ) -> u64
     requires { ⌜ (wellFormed (now list) 4 n ≡ true) × (n * 2 ≤ length (now answers)) ⌝ }
-    ensures { λ r. ⌜ memory (now (surface .exit)) (now (journal .exit)) r ≡ memoryAfter width height (callsFrom (now (list .entry)) 4 n) (memory (now (surface .entry)) (now (journal .entry)) 0) ⌝ }
-    ensures { λ r. ⌜ now (answers .exit) ≡ sets (now (answers .entry)) 0 (numbersOf (answersOf width height (callsFrom (now (list .entry)) 4 n) (memory (now (surface .entry)) (now (journal .entry)) 0))) ⌝ }
+    ensures { λ r. ⌜ memory (now (surface .exit)) (now (journal .exit)) r
+        ≡ memoryAfter width height (callsFrom (now (list .entry)) 4 n) (memory (now (surface .entry)) (now (journal .entry)) 0) ⌝ }
+    ensures { λ r. ⌜ now (answers .exit) ≡ sets (now (answers .entry)) 0
+        (numbersOf (answersOf width height (callsFrom (now (list .entry)) 4 n) (memory (now (surface .entry)) (now (journal .entry)) 0))) ⌝ }
 {
     let mut used = 0;
     let mut at = 4;
@@ -194,7 +199,8 @@ pub fn run(
     list: &[u8],
     answers: &mut [u32],
 ) -> Report
-    ensures { λ r. ⌜ reported r (now (surface .exit)) (now (journal .exit)) (now (answers .exit)) ≡ runOf width height (now (surface .entry)) (now (journal .entry)) (now (list .entry)) (now (answers .entry)) ⌝ }
+    ensures { λ r. ⌜ reported r (now (surface .exit)) (now (journal .exit)) (now (answers .exit))
+        ≡ runOf width height (now (surface .entry)) (now (journal .entry)) (now (list .entry)) (now (answers .entry)) ⌝ }
 {
     let status = memory::status(width, height, surface.len(), journal.len(), 0);
     if status != 0 {

@@ -26,7 +26,8 @@ pub extern "C" fn lacrumont_play(
     pixels: &mut u32,
 ) -> u32
     ensures { λ r. ⌜ outcome r (now (pixels .exit)) (memory (now (surface .exit)) (now (journal .exit)) (now (used .exit)))
-        ≡ playOutcome width height (playWith (now (s .entry)) (record { clip = record { left = left; top = top; right = right; bottom = bottom }; brush = brush }))
+        ≡ playOutcome width height (playWith (now (s .entry))
+        (record { clip = record { left = left; top = top; right = right; bottom = bottom }; brush = brush }))
         (memory (now (surface .entry)) (now (journal .entry)) (now (used .entry))) ⌝ }
 {
     let clip = Rectangle {

@@ -33,7 +33,8 @@ fn clear_bits(out: &mut [u8], count: usize)
 // The bits of these columns, from the bytes of their row.
 fn bits(line: &[u8], columns: &[u32], out: &mut [u8])
     requires { ⌜ (length (now columns) ≤ length (now out)) × ((k : ℕ) → k < length (now columns) → getD (now columns) k 0 < length (now line) * 8) ⌝ }
-    ensures { λ _. ⌜ Filled (λ k. stored1 (now (line .entry)) (getD (now (columns .entry)) k 0)) (now (out .entry)) (length (now (columns .entry))) (now (out .exit)) ⌝ }
+    ensures { λ _. ⌜ Filled (λ k. stored1 (now (line .entry)) (getD (now (columns .entry)) k 0))
+        (now (out .entry)) (length (now (columns .entry))) (now (out .exit)) ⌝ }
 {
     let mut k = 0;
     while k < columns.len() {

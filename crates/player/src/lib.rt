@@ -42,7 +42,8 @@ fn accepted(
     terms: Terms,
 ) -> Answer
     requires { ⌜ (limits width height (length (now surface)) (length (now journal)) used ≡ 0) × Good (length (now s)) rec ⌝ }
-    ensures { λ r. ⌜ outcomeOf r (now (surface .exit)) (now (journal .exit)) ≡ acceptedOutcome width (workOf width height (meaningIn (now (s .entry)) rec) terms) (memory (now (surface .entry)) (now (journal .entry)) used) ⌝ }
+    ensures { λ r. ⌜ outcomeOf r (now (surface .exit)) (now (journal .exit))
+        ≡ acceptedOutcome width (workOf width height (meaningIn (now (s .entry)) rec) terms) (memory (now (surface .entry)) (now (journal .entry)) used) ⌝ }
 {
     let bounds = rec.bounds;
     let clip = terms.clip;
@@ -80,7 +81,8 @@ pub fn play(
     s: &[u8],
     terms: Terms,
 ) -> Answer
-    ensures { λ r. ⌜ outcomeOf r (now (surface .exit)) (now (journal .exit)) ≡ playOutcome width height (playWith (now (s .entry)) terms) (memory (now (surface .entry)) (now (journal .entry)) used) ⌝ }
+    ensures { λ r. ⌜ outcomeOf r (now (surface .exit)) (now (journal .exit))
+        ≡ playOutcome width height (playWith (now (s .entry)) terms) (memory (now (surface .entry)) (now (journal .entry)) used) ⌝ }
 {
     let status = memory::status(width, height, surface.len(), journal.len(), used);
     if status != 0 {
@@ -95,7 +97,8 @@ pub fn play(
 
 // Undoes the last play. All its records are tested before one pixel is restored: a refused undo changes nothing.
 pub fn undo(surface: &mut [u32], width: u32, height: u32, journal: &[u8], used: u64) -> Answer
-    ensures { λ r. ⌜ outcomeOf r (now (surface .exit)) (now (journal .entry)) ≡ undoOf width height (memory (now (surface .entry)) (now (journal .entry)) used) ⌝ }
+    ensures { λ r. ⌜ outcomeOf r (now (surface .exit)) (now (journal .entry))
+        ≡ undoOf width height (memory (now (surface .entry)) (now (journal .entry)) used) ⌝ }
 {
     let status = memory::status(width, height, surface.len(), journal.len(), used);
     if status != 0 {

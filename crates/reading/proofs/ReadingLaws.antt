@@ -22,7 +22,8 @@ use Rattle.judge.proofs.AcceptedLaws.{accepted}
 use Rattle.picture.specs.Shown.{headerPalette}
 use Rattle.picture.proofs.TableLaws.{table-room, shown-some, no-colours, rest, rest-is}
 use Rattle.reading.specs.declared.Reading.{Reading}
-use Rattle.reading.specs.Reading.{present, none, wanted, emptyReading, fullReading, foundIn, foundOf, readingOf, readingFrom, readPalette, paletteFrom, headerBytes, shownPalette, Within, IsReading}
+use Rattle.reading.specs.Reading.{present, none, wanted, emptyReading, fullReading, foundIn, foundOf, readingOf, readingFrom, readPalette}
+use Rattle.reading.specs.Reading.{paletteFrom, headerBytes, shownPalette, Within, IsReading}
 
 wanted-fit : {len : ℕ} (mask : Bool) (r : Record) → Good len r → Fit len (wanted mask r)
 wanted-fit true r g = g .mask

@@ -88,7 +88,8 @@ fn records(journal: &mut [u8], count: u32, seed: u32, used: u32, state: State) -
 // The rest of the head.
 fn read_journal(journal: &mut [u8], input: &mut [u8], t: Turn) -> Turn
     requires { ⌜ Held (t .place) (length (now input)) × (t .state .bytes ≤ 0) ⌝ }
-    ensures { λ r. ⌜ Held (r .place) (length (now (input .entry))) × (r .state .pixels ≡ t .state .pixels) × (r .state .bytes ≤ length (now (journal .entry))) × (r .state .waiting ≡ t .state .waiting) ⌝ }
+    ensures { λ r. ⌜ Held (r .place) (length (now (input .entry))) × (r .state .pixels
+        ≡ t .state .pixels) × (r .state .bytes ≤ length (now (journal .entry))) × (r .state .waiting ≡ t .state .waiting) ⌝ }
 {
     let start = t.place;
     let before = t.state;
@@ -100,7 +101,8 @@ fn read_journal(journal: &mut [u8], input: &mut [u8], t: Turn) -> Turn
 
 // What the first call is lent: all there is. Where the head is cut short, no call follows.
 fn start(surface: &mut [u32], journal: &mut [u8], input: &mut [u8]) -> Turn
-    ensures { λ r. ⌜ Held (r .place) (length (now (input .entry))) × Lends (r .state) (length (now (surface .entry))) (length (now (journal .entry))) × (r .state .waiting ≡ 0) ⌝ }
+    ensures { λ r. ⌜ Held (r .place) (length (now (input .entry)))
+        × Lends (r .state) (length (now (surface .entry))) (length (now (journal .entry))) × (r .state .waiting ≡ 0) ⌝ }
 {
     let a = read_surface(surface, input);
     let b = read_journal(journal, input, a);

@@ -12,11 +12,14 @@ returns c =
     (none-drawn _ _ t (c .if1 .taken) _, none-saved _ _ t (c .if1 .taken) _ _ _)
 
 narrow-requires : tie.Need-narrow-requires
-narrow-requires c κs = (c .before .before .before .before .before .before .before .before .before .pre (omega (arith, c .before .before .before .before .if1 .left)), c .before .before .if2 .taken)
+narrow-requires c κs =
+    let some = c .before .before .before .before .if1 .left in
+    (c .before .before .before .before .before .before .before .before .before .pre (omega (arith, some)), c .before .before .if2 .taken)
 
 wide-requires : tie.Need-wide-requires
 wide-requires c κs =
-    let ready = c .before .before .before .before .before .before .before .before .before .pre (omega (arith, c .before .before .before .before .if1 .left)) in
+    let some = c .before .before .before .before .if1 .left in
+    let ready = c .before .before .before .before .before .before .before .before .before .pre (omega (arith, some)) in
     (ready, omega (arith, ready .columns, ready .wide))
 
 pub clipped-spec : {M : Type 1} → statement M

@@ -14,24 +14,39 @@ cast-index c =
     omega (arith, ready .column-numbers, extents _ (ready .good) .columns .1)
 
 columns-long : tie.Need-slice-reshare-prefix-rows
-columns-long c = omega (arith, c .before .before .before .before .before .before .before .before .before .before .before .before .before .before .before .before .before .before .before .before .before .pre .1 .for-columns, c .before .before .before .before .before .before .before .before .before .fill-source-columns .ensures .long)
+columns-long c =
+    let filled = c .before .before .before .before .before .before .before .before .before in
+    let start = filled .before .before .before .before .before .before .before .before .before .before .before .before in
+    omega (arith, start .pre .1 .for-columns, filled .fill-source-columns .ensures .long)
 
 columns-taken : tie.Need-slice-aggregate-rows
-columns-taken c = sym (length-take-le _ _ (omega (arith, c .before .before .before .before .before .before .before .before .before .before .before .before .before .before .before .before .before .before .before .before .before .before .pre .1 .for-columns, c .before .before .before .before .before .before .before .before .before .before .fill-source-columns .ensures .long)))
+columns-taken c =
+    let filled = c .before .before .before .before .before .before .before .before .before .before in
+    let start = filled .before .before .before .before .before .before .before .before .before .before .before .before in
+    sym (length-take-le _ _ (omega (arith, start .pre .1 .for-columns, filled .fill-source-columns .ensures .long)))
 
 mask-columns-long : tie.Need-slice-reshare-prefix-rows-2
-mask-columns-long c = omega (arith, c .before .before .before .before .before .before .before .before .before .before .before .before .before .before .before .before .before .before .before .before .before .before .pre .1 .for-mask-columns, c .before .before .before .before .before .before .fill-mask-columns .ensures .long)
+mask-columns-long c =
+    let filled = c .before .before .before .before .before .before in
+    let start = filled .before .before .before .before .before .before .before .before .before .before .before .before .before .before .before .before in
+    omega (arith, start .pre .1 .for-mask-columns, filled .fill-mask-columns .ensures .long)
 
 mask-columns-taken : tie.Need-slice-aggregate-rows-2
-mask-columns-taken c = sym (length-take-le _ _ (omega (arith, c .before .before .before .before .before .before .before .before .before .before .before .before .before .before .before .before .before .before .before .before .before .before .before .pre .1 .for-mask-columns, c .before .before .before .before .before .before .before .fill-mask-columns .ensures .long)))
+mask-columns-taken c =
+    let filled = c .before .before .before .before .before .before .before in
+    let start = filled .before .before .before .before .before .before .before .before .before .before .before .before .before .before .before .before in
+    sym (length-take-le _ _ (omega (arith, start .pre .1 .for-mask-columns, filled .fill-mask-columns .ensures .long)))
 
 rows-requires : tie.Need-rows-requires
 rows-requires c κs =
-    let start = c .before .before .before .before .before .before .before .before .before .before .before .before .before .before .before .before .before .before .before .before .before .before .before .before .before in
+    let masks-filled = c .before .before .before .before .before .before .before .before .before in
+    let filled = masks-filled .before .before .before .before in
+    let palette = filled .before .before .before .palette in
+    let start = filled .before .before .before .before .before .before .before .before .before .before .before .before in
     let buffers = start .pre .1 in
     let columns = mapped (start .args .p) _ _ _ _ (buffers .for-columns) (buffers .for-mask-columns)
-    (c .before .before .before .before .before .before .before .before .before .before .before .before .before .fill-source-columns .ensures) (c .before .before .before .before .before .before .before .before .before .fill-mask-columns .ensures) in
-    (start .pre .0, (c .before .before .before .before .before .before .before .before .before .before .before .before .before .before .before .before .palette .ensures, (columns, (buffers .for-colours, buffers .for-bits))))
+    (filled .fill-source-columns .ensures) (masks-filled .fill-mask-columns .ensures) in
+    (start .pre .0, (palette .ensures, (columns, (buffers .for-colours, buffers .for-bits))))
 
 pub mapped-spec : {M : Type 1} → statement M
 mapped-spec =

@@ -30,19 +30,27 @@ loop-holds c = (rows-begin _ _ _ _ _ _ _ _ _, refl, refl)
 
 add-j : tie.Need-add-j Inv-loop μ-loop
 add-j c =
-    let ready = c .before .before .before .before .before .before .before .before .before .before .before .before .before .before .before .before .before .pre .0 in
+    let at-loop = c .before .before .before in
+    let ready = at-loop .before .before .before .before .before .before .before .before .before .before .before .before .before .before .pre .0 in
     omega (arith, ready .line-numbers (omega arith), extents _ (ready .good) .lines .1)
 
 cast-j : tie.Need-cast-j Inv-loop μ-loop
 cast-j c =
-    let ready = c .before .before .before .before .before .before .before .before .before .before .before .before .before .before .before .before .before .pre .0 in
+    let at-loop = c .before .before .before in
+    let ready = at-loop .before .before .before .before .before .before .before .before .before .before .before .before .before .before .pre .0 in
     omega (arith, ready .line-numbers (omega arith), extents _ (ready .good) .lines .1)
 
 add-y : tie.Need-add-t23 Inv-loop μ-loop
-add-y c = omega (arith, c .before .before .before .before .before .before .before .before .before .before .before .before .before .before .before .before .before .before .pre .0 .lines (omega arith))
+add-y c =
+    let at-loop = c .before .before .before .before in
+    let start = at-loop .before .before .before .before .before .before .before .before .before .before .before .before .before .before in
+    omega (arith, start .pre .0 .lines (omega arith))
 
 cast-y : tie.Need-cast-t24 Inv-loop μ-loop
-cast-y c = omega (arith, c .before .before .before .before .before .before .before .before .before .before .before .before .before .before .before .before .before .before .pre .0 .lines (omega arith))
+cast-y c =
+    let at-loop = c .before .before .before .before in
+    let start = at-loop .before .before .before .before .before .before .before .before .before .before .before .before .before .before in
+    omega (arith, start .pre .0 .lines (omega arith))
 
 of-source-requires : tie.Need-of-source-requires Inv-loop μ-loop
 of-source-requires c κs =
@@ -50,7 +58,8 @@ of-source-requires c κs =
     let start = at-loop .before .before .before .before .before .before .before .before .before .before .before .before .before .before in
     let ready = start .pre .0 in
     let mapped = start .pre .1 .1 .0 in
-    let masks = at-loop .before .before .before .before .masks .ensures ∙ ap (masksIn (start .args .p .record .source .header)) (at-loop .before .before .before .before .before .is-format1 .ensures) in
+    let format = at-loop .before .before .before .before .before .is-format1 .ensures in
+    let masks = at-loop .before .before .before .before .masks .ensures ∙ ap (masksIn (start .args .p .record .source .header)) format in
     let inside = columns-inside (start .args .p) (ready .good) _ _ mapped (ready .column-numbers) in (
       record { good = ready .good; masks = masks; colours = start .pre .1 .0 .1; shows = start .pre .1 .0 .0; inside = inside },
       (omega (arith, ready .line-numbers (omega arith)), omega (arith, at-loop .loop .inv .1, mapped .as-many, start .pre .1 .1 .1 .0)),
@@ -68,37 +77,42 @@ of-mask-requires c κs =
 
 colours-long : tie.Need-slice-reshare-prefix-row Inv-loop μ-loop
 colours-long c =
-    let at-loop = c .before .before .before .before .before .before .before .before .before .before .before .before .before .before in
+    let fetched = c .before .before .before .before .before .before .before .before in
+    let at-loop = fetched .before .before .before .before .before .before in
     let start = at-loop .before .before .before .before .before .before .before .before .before .before .before .before .before .before in
-    omega (arith, at-loop .loop .inv .1, c .before .before .before .before .before .before .before .before .of-source .ensures .long, start .pre .1 .1 .0 .as-many, start .pre .1 .1 .1 .0)
+    omega (arith, at-loop .loop .inv .1, fetched .of-source .ensures .long, start .pre .1 .1 .0 .as-many, start .pre .1 .1 .1 .0)
 
 colours-taken : tie.Need-slice-aggregate-row Inv-loop μ-loop
 colours-taken c =
-    let at-loop = c .before .before .before .before .before .before .before .before .before .before .before .before .before .before .before in
+    let fetched = c .before .before .before .before .before .before .before .before .before in
+    let at-loop = fetched .before .before .before .before .before .before in
     let start = at-loop .before .before .before .before .before .before .before .before .before .before .before .before .before .before in
     sym (length-take-le _ _
-    (omega (arith, at-loop .loop .inv .1, c .before .before .before .before .before .before .before .before .before .of-source .ensures .long, start .pre .1 .1 .0 .as-many, start .pre .1 .1 .1 .0)))
+    (omega (arith, at-loop .loop .inv .1, fetched .of-source .ensures .long, start .pre .1 .1 .0 .as-many, start .pre .1 .1 .1 .0)))
 
 bits-long : tie.Need-slice-reshare-prefix-row-2 Inv-loop μ-loop
 bits-long c =
-    let at-loop = c .before .before .before .before .before .before .before .before .before .before .before .before .before .before .before in
+    let fetched = c .before .before .before .before .before in
+    let at-loop = fetched .before .before .before .before .before .before .before .before .before .before in
     let start = at-loop .before .before .before .before .before .before .before .before .before .before .before .before .before .before in
-    omega (arith, at-loop .loop .inv .2, c .before .before .before .before .before .of-mask .ensures .long, start .pre .1 .1 .0 .as-many, start .pre .1 .1 .1 .1)
+    omega (arith, at-loop .loop .inv .2, fetched .of-mask .ensures .long, start .pre .1 .1 .0 .as-many, start .pre .1 .1 .1 .1)
 
 bits-taken : tie.Need-slice-aggregate-row-2 Inv-loop μ-loop
 bits-taken c =
-    let at-loop = c .before .before .before .before .before .before .before .before .before .before .before .before .before .before .before .before in
+    let fetched = c .before .before .before .before .before .before in
+    let at-loop = fetched .before .before .before .before .before .before .before .before .before .before in
     let start = at-loop .before .before .before .before .before .before .before .before .before .before .before .before .before .before in
     sym (length-take-le _ _
-    (omega (arith, at-loop .loop .inv .2, c .before .before .before .before .before .before .of-mask .ensures .long, start .pre .1 .1 .0 .as-many, start .pre .1 .1 .1 .1)))
+    (omega (arith, at-loop .loop .inv .2, fetched .of-mask .ensures .long, start .pre .1 .1 .0 .as-many, start .pre .1 .1 .1 .1)))
 
 row-requires : tie.Need-row-requires Inv-loop μ-loop
 row-requires c κs =
-    let at-source = c .before .before .before .before .before .before .before .before .before .before in
     let at-mask = c .before .before .before .before .before .before in
-    let l = at-source .before .before .before .before .before .before .loop in
+    let at-source = at-mask .before .before .before .before in
+    let at-loop = at-source .before .before .before .before .before .before in
+    let start = at-loop .before .before .before .before .before .before .before .before .before .before .before .before .before .before in
+    let l = at-loop .loop in
     let taken = at-source .before .before .before .before .if1 .taken in
-    let start = at-source .before .before .before .before .before .before .before .before .before .before .before .before .before .before .before .before .before .before .before .before in
     let p = start .args .p in
     let ready = start .pre .0 in
     let mapped = start .pre .1 .1 .0 in
@@ -119,21 +133,23 @@ row-requires c κs =
 
 add-next : tie.Need-add-next Inv-loop μ-loop
 add-next c =
-    let at-loop = c .before .before .before .before .before .before .before .before .before .before .before .before .before .before .before .before .before .before .before .before .before in
+    let at-source = c .before .before .before .before .before .before .before .before .before .before .before .before .before .before .before in
+    let at-loop = at-source .before .before .before .before .before .before in
     let start = at-loop .before .before .before .before .before .before .before .before .before .before .before .before .before .before in
     let p = start .args .p in
     let l = at-loop .loop in
-    let taken = c .before .before .before .before .before .before .before .before .before .before .before .before .before .before .before .before .before .before .before .if1 .taken in
+    let taken = at-source .before .before .before .before .if1 .taken in
     let records = records-inside (p .at) (p .target .columns .count) (l .k) (p .target .rows .count) (l .next) taken (l .inv .0 .next-record) in
     omega (arith, records, start .pre .1 .1 .0 .as-many, start .pre .0 .records)
 
 loop-again : tie.Need-loop-again Inv-loop μ-loop
 loop-again c =
-    let at-source = c .before .before .before .before .before .before .before .before .before .before .before .before .before .before .before in
-    let at-mask = c .before .before .before .before .before .before .before .before .before .before .before in
     let at-row = c .before .before .before .before in
-    let at-loop = c .before .before .before .before .before .before .before .before .before .before .before .before .before .before .before .before .before .before .before .before .before in
+    let at-mask = at-row .before .before .before .before .before .before .before in
+    let at-source = at-mask .before .before .before .before in
+    let at-loop = at-source .before .before .before .before .before .before in
     let start = at-loop .before .before .before .before .before .before .before .before .before .before .before .before .before .before in
+    let taken = at-source .before .before .before .before .if1 .taken in
     let p = start .args .p in
     let s = now (start .args .s) in
     let l = at-loop .loop in
@@ -149,7 +165,7 @@ loop-again c =
       rows-more s p (l .k) (rule .result) (take (length columns) colours) (take (length columns) bits) (rule .ensures)
           (colours-are s p columns maskColumns mapped j _ _ (at-source .of-source .ensures))
           (bits-are s p columns maskColumns mapped j _ _ (at-mask .of-mask .ensures))
-          _ _ _ _ _ _ (l .next) (length columns) (l .inv .0) (c .before .before .before .before .before .before .before .before .before .before .before .before .before .before .before .before .before .before .before .if1 .taken) long (mapped .as-many) (at-row .row .ensures),
+          _ _ _ _ _ _ (l .next) (length columns) (l .inv .0) taken long (mapped .as-many) (at-row .row .ensures),
       at-source .of-source .ensures .long ∙ l .inv .1,
       at-mask .of-mask .ensures .long ∙ l .inv .2,
     )

@@ -21,8 +21,9 @@ all-requires c κs = (search run-formed, omega arith)
 
 returns-4 : tie.Need-returns-4
 returns-4 c =
-    let s = c .before .before .before .before .before .before .before .before .before .before .before .before .before .before .before .before .before .before .before in
-    let p : Words32 (now (s .before .args .surface)) = λ k. omega (arith, s .slice-known .given k) in
+    let at-all = c .before .before .before .before .before .before .before .before .before in
+    let known = at-all .before .before .before .before .before .before .before .before .before .before in
+    let p : Words32 (now (known .before .args .surface)) = λ k. omega (arith, known .slice-known .given k) in
     search (run-done, p)
 
 pub run-spec : {M : Type 1} → statement M

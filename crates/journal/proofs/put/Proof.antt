@@ -11,7 +11,8 @@ returns c =
     let at-second = at-third .before .before .before .before in
     let at-first = at-second .before .before .before .before in
     let a = at-first .before .before .before .args in
-    three (now (a .journal)) _ _ _ _ (a .first) (a .second) (a .third) (at-first .store-u32 .ensures) (at-second .store-u322 .ensures) (at-third .store-u323 .ensures)
+    three (now (a .journal)) _ _ _ _ (a .first) (a .second) (a .third) (at-first .store-u32 .ensures) (at-second .store-u322 .ensures)
+    (at-third .store-u323 .ensures)
 
 pub put-spec : {M : Type 1} → statement M
 put-spec =

@@ -9,9 +9,10 @@ use Rattle.player.proofs.accepted.Tie as tie
 
 mul-pixels : tie.Need-mul-pixels
 mul-pixels c =
-    let start = c .before .before .before .before .before .before .before in
+    let placed = c .before in
+    let start = placed .before .before .before .before .before .before in
     let a = start .args in
-    let few = pixels-few (a .width) (a .height) _ _ (a .used) (a .terms .clip) (a .rec) _ (start .pre .0) (c .before .clipped-target .ensures) in
+    let few = pixels-few (a .width) (a .height) _ _ (a .used) (a .terms .clip) (a .rec) _ (start .pre .0) (placed .clipped-target .ensures) in
     omega (arith, few)
 
 sub-free : tie.Need-sub-free
@@ -22,70 +23,82 @@ sub-free c =
 
 add-if1 : tie.Need-add-if1
 add-if1 c =
-    let start = c .before .before .before .before .before .before .before in
+    let placed = c .before in
+    let start = placed .before .before .before .before .before .before in
     let a = start .args in
-    let few = pixels-few (a .width) (a .height) _ _ (a .used) (a .terms .clip) (a .rec) _ (start .pre .0) (c .before .clipped-target .ensures) in
+    let few = pixels-few (a .width) (a .height) _ _ (a .used) (a .terms .clip) (a .rec) _ (start .pre .0) (placed .clipped-target .ensures) in
     omega (arith, few)
 
 returns : tie.Need-returns
 returns c =
-    let start = c .before .before .before .before .before .before .before .before .before in
+    let placed = c .before .before .before in
+    let start = placed .before .before .before .before .before .before in
     let a = start .args in
-    play-full (a .width) (a .height) _ _ (a .used) _ (a .rec) (a .terms) _ (start .pre .0) (c .before .before .before .clipped-target .ensures) (c .refused .result)
+    play-full (a .width) (a .height) _ _ (a .used) _ (a .rec) (a .terms) _ (start .pre .0) (placed .clipped-target .ensures) (c .refused .result)
     (c .before .if1 .taken) (c .refused .ensures)
 
 clipped-requires : tie.Need-clipped-requires
 clipped-requires c κs =
-    let start = c .before .before .before .before .before .before .before .before .before .before in
+    let placed = c .before .before .before .before in
+    let start = placed .before .before .before .before .before .before in
     let a = start .args in
     let memory = passed (a .width) (a .height) _ _ (a .used) (start .pre .0) in
-    ready _ (a .height) (a .terms .clip) _ _ _ (start .pre .1) (c .before .before .before .before .clipped-target .ensures) (memory .wide .1)
-    (memory .high .1) (memory .pixels-are) (omega (arith, memory .enough, c .before .before .if1 .left))
+    let room = c .before .before .if1 .left in
+    ready _ (a .height) (a .terms .clip) _ _ _ (start .pre .1) (placed .clipped-target .ensures) (memory .wide .1) (memory .high .1)
+    (memory .pixels-are) (omega (arith, memory .enough, room))
 
 add-closing : tie.Need-add-closing
 add-closing c =
-    let start = c .before .before .before .before .before .before .before .before .before .before .before .before .before .before .before in
+    let placed = c .before .before .before .before .before .before .before .before .before in
+    let start = placed .before .before .before .before .before .before in
     let a = start .args in
-    let few = pixels-few (a .width) (a .height) _ _ (a .used) (a .terms .clip) (a .rec) _ (start .pre .0) (c .before .before .before .before .before .before .before .before .before .clipped-target .ensures) in
+    let few = pixels-few (a .width) (a .height) _ _ (a .used) (a .terms .clip) (a .rec) _ (start .pre .0) (placed .clipped-target .ensures) in
     let memory = passed (a .width) (a .height) _ _ (a .used) (start .pre .0) in
     omega (arith, few, memory .enough, memory .most)
 
 cast-put : tie.Need-cast-put
 cast-put c =
-    let start = c .before .before .before .before .before .before .before .before .before .before .before .before .before .before .before .before in
+    let placed = c .before .before .before .before .before .before .before .before .before .before in
+    let start = placed .before .before .before .before .before .before in
     let a = start .args in
-    let few = pixels-few (a .width) (a .height) _ _ (a .used) (a .terms .clip) (a .rec) _ (start .pre .0) (c .before .before .before .before .before .before .before .before .before .before .clipped-target .ensures) in
+    let few = pixels-few (a .width) (a .height) _ _ (a .used) (a .terms .clip) (a .rec) _ (start .pre .0) (placed .clipped-target .ensures) in
     omega (arith, few)
 
 cast-pixels : tie.Need-cast-t27
 cast-pixels c =
-    let start = c .before .before .before .before .before .before .before .before .before .before .before .before .before .before .before .before .before .before .before in
+    let placed = c .before .before .before .before .before .before .before .before .before .before .before .before .before in
+    let start = placed .before .before .before .before .before .before in
     let a = start .args in
-    let few = pixels-few (a .width) (a .height) _ _ (a .used) (a .terms .clip) (a .rec) _ (start .pre .0) (c .before .before .before .before .before .before .before .before .before .before .before .before .before .clipped-target .ensures) in
+    let few = pixels-few (a .width) (a .height) _ _ (a .used) (a .terms .clip) (a .rec) _ (start .pre .0) (placed .clipped-target .ensures) in
     omega (arith, few)
 
 add-used : tie.Need-add-t18
 add-used c =
-    let start = c .before .before .before .before .before .before .before .before .before .before .before .before .before .before .before .before .before .before .before in
+    let placed = c .before .before .before .before .before .before .before .before .before .before .before .before .before in
+    let start = placed .before .before .before .before .before .before in
     let a = start .args in
-    let few = pixels-few (a .width) (a .height) _ _ (a .used) (a .terms .clip) (a .rec) _ (start .pre .0) (c .before .before .before .before .before .before .before .before .before .before .before .before .before .clipped-target .ensures) in
+    let few = pixels-few (a .width) (a .height) _ _ (a .used) (a .terms .clip) (a .rec) _ (start .pre .0) (placed .clipped-target .ensures) in
     let memory = passed (a .width) (a .height) _ _ (a .used) (start .pre .0) in
     omega (arith, few, memory .enough, memory .most)
 
 add-used-2 : tie.Need-add-t28
 add-used-2 c =
-    let start = c .before .before .before .before .before .before .before .before .before .before .before .before .before .before .before .before .before .before .before in
+    let placed = c .before .before .before .before .before .before .before .before .before .before .before .before .before in
+    let start = placed .before .before .before .before .before .before in
     let a = start .args in
-    let few = pixels-few (a .width) (a .height) _ _ (a .used) (a .terms .clip) (a .rec) _ (start .pre .0) (c .before .before .before .before .before .before .before .before .before .before .before .before .before .clipped-target .ensures) in
+    let few = pixels-few (a .width) (a .height) _ _ (a .used) (a .terms .clip) (a .rec) _ (start .pre .0) (placed .clipped-target .ensures) in
     let memory = passed (a .width) (a .height) _ _ (a .used) (start .pre .0) in
     omega (arith, few, memory .enough, memory .most)
 
 returns-2 : tie.Need-returns-2
 returns-2 c =
-    let start = c .before .before .before .before .before .before .before .before .before .before .before .before .before .before .before .before .before .before .before in
+    let at-draw = c .before .before .before .before .before .before .before .before in
+    let fits = at-draw .before .before .before in
+    let placed = fits .before .before in
+    let start = placed .before .before .before .before .before .before in
     let a = start .args in
-    play-drawn (a .width) (a .height) _ _ (a .used) _ (a .rec) (a .terms) _ (start .pre .0) (c .before .before .before .before .before .before .before .before .before .before .before .before .before .clipped-target .ensures) (c .before .before .before .before .before .before .before .before .before .before .before .if1 .left) _ _ _
-    (c .before .before .before .before .before .before .before .before .clipped .ensures) (c .before .before .put .ensures)
+    play-drawn (a .width) (a .height) _ _ (a .used) _ (a .rec) (a .terms) _ (start .pre .0) (placed .clipped-target .ensures)
+    (fits .if1 .left) _ _ _ (at-draw .clipped .ensures) (c .before .before .put .ensures)
 
 pub accepted-spec : {M : Type 1} → statement M
 accepted-spec =

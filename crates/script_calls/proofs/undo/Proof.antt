@@ -32,7 +32,8 @@ returns c =
     let n : ℕ = start .args .m .pixels in
     let l : List ℕ = start .args .surface .now in
     let e : List ℕ = undone .last .0 in (
-      ap (λ (x : List ℕ). outcomeOf (undone .result) x (take (start .args .m .bytes) (start .args .journal .now))) (front n l e (start .pre .0) (undone .kept .0))
+      ap (λ (x : List ℕ). outcomeOf (undone .result) x (take (start .args .m .bytes) (start .args .journal .now)))
+          (front n l e (start .pre .0) (undone .kept .0))
           ∙ undone .ensures,
       rest n l e (start .pre .0) (undone .kept .0),
     )

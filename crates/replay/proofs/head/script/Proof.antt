@@ -19,14 +19,15 @@ slice-aggregate-calls-and-sums-2 c =
 
 calls-and-sums-requires : tie.Need-calls-and-sums-requires
 calls-and-sums-requires c κs =
-    let head = c .before .before .before .before .before .before .before .before .before .before .before .start in
+    let at-head = c .before .before .before .before .before .before .before .before .before .before .before in
+    let head = at-head .start in
     record {
       place = record { order = head .ensures .0 .order; within = omega (arith, head .ensures .0 .within, head .kept .1 .1 .0) };
       memory = record {
         pixels = whole _ _ (omega (arith, head .ensures .1 .pixels, head .kept .0));
         bytes = whole _ _ (omega (arith, head .ensures .1 .bytes, head .kept .1 .0));
       };
-      text = record { waiting = omega (arith, head .ensures .2); room = c .before .before .before .before .before .before .before .before .before .before .before .before .before .before .before .before .before .before .before .pre };
+      text = record { waiting = omega (arith, head .ensures .2); room = at-head .before .before .before .before .before .before .before .before .pre };
     }
 
 pub script-spec : {M : Type 1} → statement M

@@ -12,8 +12,10 @@ returns c =
     let moved = c .before .before .before .before .before .before .shift in
     let got = c .before .before .read-full in
     let p = start .args .p in (
-      held-front p (start .args .buffer .now) (moved .last .0) (got .last .1 .0) (got .result) _ (start .pre) (moved .ensures) (got .ensures .0) (got .kept .1 .0),
-      unread-front p (start .args .buffer .now) (moved .last .0) (got .last .1 .0) (got .result) _ (start .pre) (moved .ensures) (length (moved .last .0) - (p .end - p .at)),
+      held-front p (start .args .buffer .now) (moved .last .0) (got .last .1 .0) (got .result) _ (start .pre) (moved .ensures)
+          (got .ensures .0) (got .kept .1 .0),
+      unread-front p (start .args .buffer .now) (moved .last .0) (got .last .1 .0) (got .result) _ (start .pre) (moved .ensures)
+          (length (moved .last .0) - (p .end - p .at)),
     )
 
 pub refill-spec : {M : Type 1} → statement M

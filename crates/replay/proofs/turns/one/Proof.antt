@@ -7,12 +7,14 @@ use Rattle.replay.proofs.turns.one.Tie as tie
 
 add-place : tie.Need-add-place
 add-place c =
-    let read = c .before .before .before .before .before .before .before .before .before .before .before .before .before .before .before .before .ahead in
+    let at-first = c .before .before .before .before .before .before .before .before .before .before .before in
+    let at-read = at-first .before .before .before .before .before in
+    let read = at-read .ahead in
     omega (
       arith,
       read .ensures .0 .within,
-      c .before .before .before .before .before .before .before .before .before .before .before .before .before .before .before .before .before .before .before .before .before .before .before .before .good .1 .1 .0 .0,
-      stays (read .result .at) (read .result .end) _ (read .last .0) (read .ensures .0 .order) (c .before .before .before .before .before .before .before .before .before .before .before .first .ensures .within),
+      at-read .before .before .before .before .before .before .before .before .good .1 .1 .0 .0,
+      stays (read .result .at) (read .result .end) _ (read .last .0) (read .ensures .0 .order) (at-first .first .ensures .within),
     )
 
 pub one-spec : {M : Type 1} → statement M

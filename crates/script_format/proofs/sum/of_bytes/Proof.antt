@@ -29,7 +29,10 @@ loop-holds c = (omega arith, refl)
 -- src/sum.rt:34:5
 loop-again : tie.Need-loop-again Inv-loop μ-loop
 loop-again c =
-    (omega arith, ap (λ (h : ℕ). sumFrom h (drop (c .before .before .before .loop .k + 1) (c .before .before .before .before .before .args .s .now))) (c .next .ensures) ∙ byte-more _ _ _ (c .before .before .loop-test .taken) ∙ c .before .before .before .loop .inv .1)
+    let at-loop = c .before .before .before in
+    let s = at-loop .before .before .args .s .now in
+    let more = ap (λ (h : ℕ). sumFrom h (drop (at-loop .loop .k + 1) s)) (c .next .ensures) in
+    (omega arith, more ∙ byte-more _ _ _ (c .before .before .loop-test .taken) ∙ at-loop .loop .inv .1)
 
 -- src/sum.rt:29:1
 returns : tie.Need-returns Inv-loop μ-loop

@@ -14,7 +14,9 @@ use Rattle.script_format.proofs.text.put.Reads as put-reads
 -- src/text.rt:28:17
 -- src/text.rt:28:5
 put-requires : tie.Need-put-requires
-put-requires c κs = omega (arith, few (c .before .before .before .before .before .args .n) (c .before .before .decimal .result) (omega arith) (c .before .before .decimal .ensures .1 .0))
+put-requires c κs =
+    let digits = c .before .before in
+    omega (arith, few (digits .before .before .before .args .n) (digits .decimal .result) (omega arith) (digits .decimal .ensures .1 .0))
 
 -- src/text.rt:22:1
 -- src/text.rt:22:1

@@ -43,13 +43,19 @@ returns : tie.Need-returns Inv-loop μ-loop
 returns c = search needs
 
 add-at : tie.Need-add-at Inv-loop μ-loop
-add-at c = omega (arith, rest (c .before .before .before .before .loop .at) (c .before .before .before .before .before .before .args .s .now) (c .before .entry .ensures))
+add-at c =
+    let at-loop = c .before .before .before .before in
+    omega (arith, rest (at-loop .loop .at) (at-loop .before .before .args .s .now) (c .before .entry .ensures))
 
 loop-less : tie.Need-loop-less Inv-loop μ-loop
-loop-less c = omega (arith, rest (c .before .before .before .before .loop .at) (c .before .before .before .before .before .before .args .s .now) (c .before .entry .ensures))
+loop-less c =
+    let at-loop = c .before .before .before .before in
+    omega (arith, rest (at-loop .loop .at) (at-loop .before .before .args .s .now) (c .before .entry .ensures))
 
 loop-again : tie.Need-loop-again Inv-loop μ-loop
-loop-again c = omega (arith, rest (c .before .before .before .before .loop .at) (c .before .before .before .before .before .before .args .s .now) (c .before .entry .ensures))
+loop-again c =
+    let at-loop = c .before .before .before .before in
+    omega (arith, rest (at-loop .loop .at) (at-loop .before .before .args .s .now) (c .before .entry .ensures))
 
 returns-2 : tie.Need-returns-2 Inv-loop μ-loop
 returns-2 c = search needs
