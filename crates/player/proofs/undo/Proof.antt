@@ -57,7 +57,8 @@ any-off-requires : tie.Need-any-off-requires
 any-off-requires c κs =
     let at-status = c .before .before .before .before .before .before in
     let a = at-status .before .before .before .args in
-    named-inside (a .width) (a .height) (now (a .surface)) (now (a .journal)) (a .used) _ (at-status .status .ensures) (c .before .before .before .before .before .if1 .left) _
+    let passes = c .before .before .before .before .before .if1 .left in
+    named-inside (a .width) (a .height) (now (a .surface)) (now (a .journal)) (a .used) _ (at-status .status .ensures) passes _
     (c .if4 .left)
 
 returns-5 : tie.Need-returns-5
