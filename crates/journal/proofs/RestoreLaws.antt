@@ -9,7 +9,7 @@ use native.Mathlib.Omega.{arith}
 use lib.Arith.{digits-lt}
 use lib.Dec.{leb}
 use lib.ListN.{length, set, length-set}
-use borrow.Author.Tests.{le-leb, lt-leb, leb-false}
+use borrow.Author.Tests.{leb-false}
 use Rattle.words.proofs.ChoiceLaws.{or-by-first, or-by-second, or-none}
 use Rattle.journal.specs.Drawing.{pixelIndex}
 use Rattle.journal.specs.Records.{Entry, entryAt, entriesAt}
@@ -28,30 +28,20 @@ module _ (w h : ℕ) (j : List ℕ) (from n : ℕ) where
       let e : from + n - from ≡ n = omega arith in
       record { below = omega arith; same = ap (λ (k : ℕ). anyOff w h (entriesAt j from k)) e }
 
-  module _ (i x : ℕ) (r : Tested w h j from n i) (l : i < from + n) (e : x ≡ entryAt j i .first) where
-    first-decides : anyOff w h (entriesAt j from n)
-        ≡ (leb w x || leb h (entryAt j i .second) || anyOff w h (entriesAt j (i + 1) (from + n - (i + 1))))
+  module _ (i x y : ℕ) (r : Tested w h j from n i) (l : i < from + n) (e : x ≡ entryAt j i .first) (f : y ≡ entryAt j i .second) where
+    record-decides : anyOff w h (entriesAt j from n) ≡ (leb w x || leb h y || anyOff w h (entriesAt j (i + 1) (from + n - (i + 1))))
     unfolding anyOff entriesAt
-    first-decides =
+    record-decides =
         let k : from + n - i ≡ suc (from + n - (i + 1)) = omega arith in
         let m : suc i ≡ i + 1 = omega arith in
         sym (r .same) ∙ ap (λ (k : ℕ). anyOff w h (entriesAt j i k)) k
-        ∙ (λ t. leb w (sym e t) || leb h (entryAt j i .second) || anyOff w h (entriesAt j (m t) (from + n - (i + 1))))
+        ∙ (λ t. leb w (sym e t) || leb h (sym f t) || anyOff w h (entriesAt j (m t) (from + n - (i + 1))))
 
-    pub tested-column : w ≤ x → true ≡ anyOff w h (entriesAt j from n)
-    tested-column a = sym (first-decides ∙ or-by-first _ _ (or-by-first _ _ (le-leb w x a)))
+    pub tested-off : (leb w x || leb h y) ≡ true → true ≡ anyOff w h (entriesAt j from n)
+    tested-off a = sym (record-decides ∙ or-by-first _ _ a)
 
-    module _ (y : ℕ) (a : x < w) (f : y ≡ entryAt j i .second) where
-      second-decides : anyOff w h (entriesAt j from n) ≡ (leb h y || anyOff w h (entriesAt j (i + 1) (from + n - (i + 1))))
-      second-decides =
-          first-decides
-          ∙ (λ t. lt-leb w x a t || leb h (sym f t) || anyOff w h (entriesAt j (i + 1) (from + n - (i + 1))))
-
-      pub tested-row : h ≤ y → true ≡ anyOff w h (entriesAt j from n)
-      tested-row b = sym (second-decides ∙ or-by-first _ _ (le-leb h y b))
-
-      pub tested-one : y < h → Tested w h j from n (i + 1)
-      tested-one b = record { below = omega arith; same = sym (second-decides ∙ or-by-second _ _ (lt-leb h y b) refl) }
+    pub tested-one : (leb w x || leb h y) ≡ false → Tested w h j from n (i + 1)
+    tested-one a = record { below = omega arith; same = sym (record-decides ∙ or-by-second _ _ a refl) }
 
   pub tested-all : (i : ℕ) → Tested w h j from n i → from + n ≤ i → false ≡ anyOff w h (entriesAt j from n)
   unfolding anyOff entriesAt

@@ -54,10 +54,7 @@ pub fn any_off(journal: &[u8], from: usize, n: usize, width: u32, height: u32) -
     let end = from + n;
     let mut i = from;
     while i < end {
-        if width <= first(journal, i) {
-            return true;
-        }
-        if height <= second(journal, i) {
+        if (width <= first(journal, i)) | (height <= second(journal, i)) {
             return true;
         }
         i += 1;

@@ -1,7 +1,7 @@
 -- Each turn tests one record, and what is left decides as all did.
 use Prim.Native.Nat.{_-_}
 use native.Mathlib.Omega.{arith}
-use Rattle.journal.proofs.RestoreLaws.{Tested, tested-none, tested-column, tested-row, tested-one, tested-all}
+use Rattle.journal.proofs.RestoreLaws.{Tested, tested-none, tested-off, tested-one, tested-all}
 use Rattle.journal.proofs.any_off.Statement.{statement}
 use Rattle.journal.proofs.any_off.Tie as tie
 
@@ -15,21 +15,22 @@ loop-holds : tie.Need-loop-holds Inv-loop μ-loop
 loop-holds c = search tested-none
 
 returns : tie.Need-returns Inv-loop μ-loop
-returns c = search tested-column
-
-returns-2 : tie.Need-returns-2 Inv-loop μ-loop
-returns-2 c = search tested-row
+returns c =
+    let at-first = c .before .before in
+    let l = at-first .before .before .loop in
+    tested-off _ _ _ _ _ _ _ _ (l .inv) (at-first .before .loop-test .taken) (at-first .first .ensures) (c .before .second .ensures) (c .if1 .taken)
 
 loop-again : tie.Need-loop-again Inv-loop μ-loop
 loop-again c =
-    tested-one _ _ _ _ _ _ _ (c .before .before .before .before .before .loop .inv) (c .before .before .before .before .loop-test .taken)
-    (c .before .before .before .first .ensures) _ (c .before .before .if1 .left) (c .before .second .ensures) (c .if2 .left)
+    let at-first = c .before .before in
+    let l = at-first .before .before .loop in
+    tested-one _ _ _ _ _ _ _ _ (l .inv) (at-first .before .loop-test .taken) (at-first .first .ensures) (c .before .second .ensures) (c .if1 .left)
 
-returns-3 : tie.Need-returns-3 Inv-loop μ-loop
-returns-3 c = search tested-all
+returns-2 : tie.Need-returns-2 Inv-loop μ-loop
+returns-2 c = search tested-all
 
 pub any-off-spec : {M : Type 1} → statement M
 any-off-spec =
     tie.close (tie.spec
-    Inv-loop μ-loop (λ c. omega arith) loop-holds (λ c κs. omega arith) returns (λ c κs. omega arith) returns-2
-    (λ c. omega arith) (λ c. omega arith) loop-again returns-3)
+    Inv-loop μ-loop (λ c. omega arith) loop-holds (λ c κs. omega arith) (λ c κs. omega arith) returns (λ c. omega arith)
+    (λ c. omega arith) loop-again returns-2)
