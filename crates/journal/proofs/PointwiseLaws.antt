@@ -123,14 +123,14 @@ holds-block x n y (suc m) k j a b c d =
     (λ l. Memᴰ·append-right (row x n y) (holds-block x n (suc y) m k j a b l (omega arith))) (eq-or-lt-of-le c)
 
 -- a pixel's number says its column and its row
-same-place : (w x y x′ y′ : ℕ) → x < w → x′ < w → y * w + x ≡ y′ * w + x′ → (x ≡ x′) × (y ≡ y′)
-same-place w x y x′ y′ a b e =
+same-point : (w x y x′ y′ : ℕ) → x < w → x′ < w → y * w + x ≡ y′ * w + x′ → (x ≡ x′) × (y ≡ y′)
+same-point w x y x′ y′ a b e =
     (sym (digits-mod y a) ∙ ap (λ (k : ℕ). k % w) e ∙ digits-mod y′ b, sym (digits-div y a) ∙ ap (λ (k : ℕ). k / w) e ∙ digits-div y′ b)
 
 pub off-block : (w x n y m k j : ℕ) → (1 ≤ n → x + n ≤ w) → k < w → (x ≤ k → k < x + n → y ≤ j → j < y + m → ⊥)
     → Off w (pixelIndex w k j) (block x n y m)
 off-block w x n y m k j on l g =
-    all-block _ x n y m (λ k′ j′ a b c d e. let q = same-place w k j k′ j′ l (omega (arith, on (omega arith))) e in
+    all-block _ x n y m (λ k′ j′ a b c d e. let q = same-point w k j k′ j′ l (omega (arith, on (omega arith))) e in
     g (omega arith) (omega arith) (omega arith) (omega arith))
 
 -- ---- so a rectangle drawn

@@ -38,7 +38,7 @@ module _ (w : ℕ) (f : Paint) where
   length-saved [] s = refl
   length-saved (p ∷ ps) s = ap suc (length-saved ps (dot w f (p .x) (p .y) s))
 
-  -- places drawn in two goes
+  -- points drawn in two goes
   pub drawn-append : (ps qs : List Point) (s : List ℕ) → drawn w f (ps ++ qs) s ≡ drawn w f qs (drawn w f ps s)
   unfolding drawn
   drawn-append [] qs s = refl

@@ -14,7 +14,7 @@ use Rattle.journal.specs.Drawing.{pixelIndex, Paint, dot, drawn}
 use Rattle.journal.specs.Records.{stride, entryBytes, bytesOf, saved}
 use Rattle.journal.proofs.RecordLaws.{length-bytes, bytes-append, length-drawn, length-saved, drawn-append, saved-append}
 
--- surface s and journal j, with the places ps still to draw and their records from i on, come to what s₀ and j₀ come to with ps₀ and i₀
+-- surface s and journal j, with the points ps still to draw and their records from i on, come to what s₀ and j₀ come to with ps₀ and i₀
 pub record Leads (w : ℕ) (f : Paint) (ps₀ : List Point) (i₀ : ℕ) (s₀ j₀ : List ℕ) (ps : List Point) (i : ℕ) (s j : List ℕ) : Type 0 where
   pub surface : drawn w f ps s ≡ drawn w f ps₀ s₀
   pub journal : sets j (i * stride) (bytesOf (saved w f ps s)) ≡ sets j₀ (i₀ * stride) (bytesOf (saved w f ps₀ s₀))

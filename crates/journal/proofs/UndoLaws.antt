@@ -28,7 +28,7 @@ restored-saved w f (p ∷ ps) s =
     let k : ℕ = pixelIndex w (p .x) (p .y) in
     ap (λ (r : List ℕ). set r k (getD s k 0)) (restored-saved w f ps (dot w f (p .x) (p .y) s)) ∙ set-set s k _ _ ∙ set-getD s k 0
 
--- ---- the records of places on the surface
+-- ---- the records of points on the surface
 
 pub record OnSurface (w h : ℕ) (p : Point) : Type 0 where
   pub column : p .x < w
@@ -60,7 +60,7 @@ pub record EntryWords (e : Entry) : Type 0 where
   pub second : Word (e .second)
   pub third : Word (e .third)
 
--- drawing keeps them, and what is saved of places on the surface is such records
+-- drawing keeps them, and what is saved of points on the surface is such records
 words-set : (s : List ℕ) (i v : ℕ) → PixelWords s → Word v → PixelWords (set s i v)
 words-set [] i v hs hv k = hs k
 words-set (x ∷ s) zero v hs hv zero = hv

@@ -25,7 +25,7 @@ unfoldable pub bytesOf : List Entry → List ℕ
 bytesOf [] = []
 bytesOf (e ∷ es) = entryBytes (e .first) (e .second) (e .third) ++ bytesOf es
 
--- "Pixel record: x, y, old pixel; row by row, left to right": of each place, the pixel as it is when its turn comes
+-- "Pixel record: x, y, old pixel; row by row, left to right": of each point, the pixel as it is when its turn comes
 unfoldable pub saved : (width : ℕ) → Paint → List Point → List ℕ → List Entry
 saved width paint [] s = []
 saved width paint (p ∷ ps) s = entry (p .x) (p .y) (getD s (pixelIndex width (p .x) (p .y)) 0) ∷ saved width paint ps (dot width paint (p .x) (p .y) s)

@@ -27,7 +27,7 @@ module _ (x cxSrc cx i start n m : ℕ) (b : Bool) (s : start ≡ sourceStart x 
   column-is r e = λ t. s t + (e ∙ (λ u. sourcePosition (g u) i (p u) (q u))) t
 
 -- a column of the source's rectangle
-pub place-lt : (b : Bool) (i n m : ℕ) → i < m → 1 ≤ n → sourcePosition b i n m < n
+pub position-lt : (b : Bool) (i n m : ℕ) → i < m → 1 ≤ n → sourcePosition b i n m < n
 unfolding sourcePosition
-place-lt false i n m h l = column-lt h l
-place-lt true i n m h l = omega arith
+position-lt false i n m h l = column-lt h l
+position-lt true i n m h l = omega arith

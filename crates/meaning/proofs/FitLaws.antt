@@ -13,7 +13,7 @@ use Rattle.judge.specs.declared.Record.{Record}
 use Rattle.judge.specs.Geometry.{badSide, far, sticksOut}
 use Rattle.judge.specs.Good.{Good}
 use Rattle.meaning.specs.Sampling.{sourceStart, mirrored, sourceColumn}
-use Rattle.meaning.proofs.ColumnLaws.{place-lt}
+use Rattle.meaning.proofs.ColumnLaws.{position-lt}
 
 side : (most x : ℕ) → badSide most x ≡ false → (1 ≤ magnitude32 x) × (magnitude32 x ≤ most)
 side most x e = let p = or-none (ltb (magnitude32 x) 1) _ e in (ltb-false _ 1 (p .0), ltb-false most _ (p .1))
@@ -60,7 +60,7 @@ source-fits r g q =
 pub column-inside : (x cxSrc cx i n : ℕ) → i < magnitude32 cx → 1 ≤ magnitude32 cxSrc → sourceStart x cxSrc + magnitude32 cxSrc ≤ n
     → sourceColumn x cxSrc cx i < n
 unfolding sourceColumn
-column-inside x cxSrc cx i n h l p = omega (arith, place-lt (mirrored cx cxSrc) i (magnitude32 cxSrc) (magnitude32 cx) h l)
+column-inside x cxSrc cx i n h l p = omega (arith, position-lt (mirrored cx cxSrc) i (magnitude32 cxSrc) (magnitude32 cx) h l)
 
 -- so does the row that a row of the target reads
 pub row-inside : {len : ℕ} (r : Record) → Good len r → r .source .present ≡ true → (j row : ℕ) → j < magnitude32 (r .cy)

@@ -1,4 +1,4 @@
--- All that the journal's laws ask of a play's work: its places lie on the surface, and it makes 32-bit numbers of 32-bit numbers.
+-- All that the journal's laws ask of a play's work: its points lie on the surface, and it makes 32-bit numbers of 32-bit numbers.
 -- Assumes nothing.
 use mathlib.Core.Bool.{Bool, true, false, cond}
 use Prim.Native.Nat.{ℕ, _^_, _<_}
@@ -22,7 +22,7 @@ use Rattle.composite.specs.Paints.{paintedBy}
 use Rattle.meaning.specs.Meaning.{Meaning, meaningOf, paintOn, targetIn, workOf}
 use Rattle.player.specs.Calls.{Play, work}
 
--- ---- the places
+-- ---- the points
 
 target-on : (w h cx cy : ℕ) (t : Target) → OnBoth w h cx cy t → All (OnSurface w h) (pointsIn t)
 target-on w h cx cy t on =

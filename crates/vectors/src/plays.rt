@@ -88,11 +88,11 @@ fn played(surface: &[u32], journal: &[u8]) {
     line::pixel(b"whole play: pixel 0", pixel_at(surface, 0), 0xFF112233);
     line::pixel(b"whole play: pixel 1", pixel_at(surface, 1), 0xFF112233);
     journal_record(b"whole play: record 0", journal, 0, 0, 0, 0xFF000000);
-    journal_record(b"whole play: record 1", journal, 12, 1, 0, 0xFF0000FF);
+    journal_record(b"whole play: record 1", journal, 1, 1, 0, 0xFF0000FF);
     journal_record(
         b"whole play: closing record",
         journal,
-        24,
+        2,
         0xFFFFFFFF,
         2,
         0x51,
@@ -108,9 +108,10 @@ fn undone(surface: &mut [u32], journal: &[u8], used: u64) {
     line::pixel(b"undone: pixel 1", pixel_at(surface, 1), 0xFF0000FF);
 }
 
-fn journal_record(label: &[u8], journal: &[u8], at: usize, x: u32, y: u32, old: u32)
-    requires { ⌜ at < 4096 ⌝ }
+fn journal_record(label: &[u8], journal: &[u8], i: usize, x: u32, y: u32, old: u32)
+    requires { ⌜ i < 4096 ⌝ }
 {
+    let at = i * journal::STRIDE;
     line::pixel(label, words::read_u32(journal, at), x);
     line::pixel(label, words::read_u32(journal, at + 4), y);
     line::pixel(label, words::read_u32(journal, at + 8), old);

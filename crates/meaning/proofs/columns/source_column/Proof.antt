@@ -1,6 +1,6 @@
 -- A column of the source's rectangle, counted from its first, lies in the picture, so the sum fits.
 use native.Mathlib.Omega.{arith}
-use Rattle.meaning.proofs.ColumnLaws.{column-is, place-lt}
+use Rattle.meaning.proofs.ColumnLaws.{column-is, position-lt}
 use borrow.Author.Needs.{needs}
 use Rattle.meaning.proofs.columns.source_column.Statement.{statement}
 use Rattle.meaning.proofs.columns.source_column.Tie as tie
@@ -9,7 +9,7 @@ add-result : tie.Need-add-result
 add-result c =
     let a = c .before .before .before .before .before .args in
     let turned = c .before .before .before .is-mirrored .result in
-    let l = place-lt turned (a .i) (c .before .before .magnitude .result) (c .before .magnitude2 .result) (omega arith) (omega arith) in
+    let l = position-lt turned (a .i) (c .before .before .magnitude .result) (c .before .magnitude2 .result) (omega arith) (omega arith) in
     omega (arith, l)
 
 returns : tie.Need-returns
