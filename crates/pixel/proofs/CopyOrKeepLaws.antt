@@ -2,7 +2,7 @@
 use mathlib.Core.Path.{_≡_, refl, sym, _∙_}
 use Prim.Native.Nat.{ℕ, _+_, _*_, _<_}
 use Rattle.pixel.specs.Bits.{bit}
-use Rattle.pixel.specs.Raster.{index, raster}
+use Rattle.pixel.specs.Raster.{rasterIndex, raster}
 use Rattle.pixel.specs.CopyOrKeep.{CopyOrKeep}
 use Rattle.pixel.proofs.BitLaws.{bit-lt, on-bit, low-bits, from-ext}
 
@@ -24,7 +24,7 @@ unfolding bit
 kept = on-bits (λ (b s t : ℕ). bit 0xAA (4 * b + 2 * s + t) ≡ t) refl refl refl refl refl refl refl refl
 
 pub copy-or-keep : CopyOrKeep
-unfolding raster index
+unfolding raster rasterIndex
 copy-or-keep = record {
   copies = λ b s t.
       from-ext 24 _ (bit s) (λ k h. copied (bit b k) (bit s k) (bit t k) (bit-lt b k) (bit-lt s k) (bit-lt t k)) ∙ sym (low-bits 24 s);
