@@ -1,16 +1,14 @@
 -- What a pixel becomes, by the play's rule. Definitions only.
-use mathlib.Core.Path.{_≡_}
 use mathlib.Core.Bool.{cond}
-use Prim.Native.Nat.{ℕ, _-_, _*_}
+use Prim.Native.Nat.{ℕ, _-_}
 use mathlib.Core.List.{List}
 use lib.ListN.{length, getD}
-use lib.Seq.{sets}
 use lib.Dec.{eqb}
 use Rattle.pixel.specs.Blend.{over0, over1}
 use Rattle.pixel.specs.Raster.{rasterPixel}
 use Rattle.region.specs.Target.{row}
-use Rattle.journal.specs.Drawing.{Paint, drawn}
-use Rattle.journal.specs.Records.{stride, bytesOf, saved}
+use Rattle.journal.specs.Drawing.{Paint}
+use Rattle.journal.specs.Records.{DrawnAndSaved}
 use Rattle.composite.specs.declared.Start.{Start}
 use Rattle.composite.specs.declared.Rule.{Rule}
 use Rattle.composite.specs.declared.Rule.the-variants.{Blend0, Blend1, Raster, Masked}
@@ -31,6 +29,4 @@ rowPaint rule colours bits x old column row = paintedBy rule (getD colours (colu
 -- a row that starts so, painted: its pixels are drawn on the surface, and their old ones saved in the journal
 abbrev pub Painted : (width : ℕ) → Start → Rule → (colours bits surface journal surfaceAfter journalAfter : List ℕ) → Type 0
 Painted width p rule colours bits surface journal surfaceAfter journalAfter =
-    let paint = rowPaint rule colours bits (p .x) in
-    let points = row (p .x) (length colours) (p .y) in
-    (surfaceAfter ≡ drawn width paint points surface) × (journalAfter ≡ sets journal (p .at * stride) (bytesOf (saved width paint points surface)))
+    DrawnAndSaved width (p .at) (rowPaint rule colours bits (p .x)) (row (p .x) (length colours) (p .y)) surface journal surfaceAfter journalAfter

@@ -4,21 +4,19 @@ use mathlib.Core.Bool.{true, cond}
 use mathlib.Core.List.{List}
 use Prim.Native.Nat.{ℕ, _+_, _*_, _≤_, _<_}
 use lib.ListN.{length, getD}
-use lib.Seq.{sets}
 use Rattle.words.specs.Bytes.{magnitude32, signed32}
 use Rattle.words.specs.Filled.{Filled}
 use Rattle.pixel.specs.Position.{maskPixel}
 use Rattle.judge.specs.declared.Record.{Record}
 use Rattle.judge.specs.Good.{Good}
 use Rattle.region.specs.Target.{pointsIn}
-use Rattle.journal.specs.Drawing.{drawn}
-use Rattle.journal.specs.Records.{stride, bytesOf, saved}
+use Rattle.journal.specs.Records.{stride, DrawnAndSaved}
 use Rattle.meaning.specs.Sampling.{sourceColumn}
 use Rattle.meaning.specs.Meaning.{meaningIn, paintOn}
 use Rattle.draw.specs.declared.Plan.{Plan}
 
 -- an accepted record of so many bytes, whose clipped target has columns and lies on the surface and in the whole target, and a journal
--- with room for its pixels
+-- with room for its pixels; no side of a surface is above 4,096
 pub record Ready (size : ℕ) (p : Plan) (surface journal : List ℕ) : Type 0 where
   pub good : Good size (p .record)
   pub wide : p .width ≤ 4096
@@ -58,7 +56,5 @@ pub record Buffers (p : Plan) (sourceColumns maskColumns colours bits : List ℕ
 -- the target's pixels are drawn on the surface as record s means them, and their old ones stand in the journal from the plan's record on
 abbrev pub Drawn : (s : List ℕ) → Plan → (surface journal surfaceAfter journalAfter : List ℕ) → Type 0
 Drawn s p surface journal surfaceAfter journalAfter =
-    let paint = paintOn (p .target) (meaningIn s (p .record)) (p .brush) in
-    let points = pointsIn (p .target) in
-    (surfaceAfter ≡ drawn (p .width) paint points surface)
-    × (journalAfter ≡ sets journal (p .at * stride) (bytesOf (saved (p .width) paint points surface)))
+    DrawnAndSaved (p .width) (p .at) (paintOn (p .target) (meaningIn s (p .record)) (p .brush)) (pointsIn (p .target))
+    surface journal surfaceAfter journalAfter

@@ -11,7 +11,7 @@ use Rattle.words.proofs.ListLaws.{sets-append}
 use Rattle.region.specs.Target.{Point, row, block}
 use Rattle.region.proofs.TargetLaws.{length-row}
 use Rattle.journal.specs.Drawing.{pixelIndex, Paint, dot, drawn}
-use Rattle.journal.specs.Records.{stride, entryBytes, bytesOf, saved}
+use Rattle.journal.specs.Records.{stride, entryBytes, bytesOf, saved, DrawnAndSaved}
 use Rattle.journal.proofs.RecordLaws.{length-bytes, bytes-append, length-drawn, length-saved, drawn-append, saved-append}
 
 -- surface s and journal j, with the points ps still to draw and their records from i on, come to what s₀ and j₀ come to with ps₀ and i₀
@@ -96,7 +96,7 @@ module _ (w : ℕ) (f : Paint) (at x n y : ℕ) (s₀ j₀ : List ℕ) where
   }
 
   pub row-ends : (s j : List ℕ) (i : ℕ) → Row w f at x n y s₀ j₀ s j i → n ≤ i
-      → (s ≡ drawn w f (row x n y) s₀) × (j ≡ sets j₀ (at * stride) (bytesOf (saved w f (row x n y) s₀)))
+      → DrawnAndSaved w at f (row x n y) s₀ j₀ s j
   unfolding drawn saved bytesOf
   row-ends s j i r h =
       let l : Leads w f (row x n y) at s₀ j₀ [] (at + i) s j = rw (row-last x n y i h) at (r .leads) in
@@ -136,7 +136,7 @@ module _ (w : ℕ) (f : Paint) (at x n y m : ℕ) (s₀ j₀ : List ℕ) where
   }
 
   pub rows-end : (s j : List ℕ) (k i : ℕ) → Rows w f at x n y m s₀ j₀ s j k i → m ≤ i
-      → (s ≡ drawn w f (block x n y m) s₀) × (j ≡ sets j₀ (at * stride) (bytesOf (saved w f (block x n y m) s₀)))
+      → DrawnAndSaved w at f (block x n y m) s₀ j₀ s j
   unfolding drawn saved bytesOf
   rows-end s j k i r h =
       let l : Leads w f (block x n y m) at s₀ j₀ [] k s j = rw (block-last x n y m i h) at (r .leads) in

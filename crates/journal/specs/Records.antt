@@ -1,10 +1,12 @@
 -- Document 01, "The journal": its records as numbers and as bytes, and what a play saves. Definitions only.
+use mathlib.Core.Path.{_≡_}
 use Prim.Native.Nat.{ℕ, zero, suc, _+_, _*_}
 use mathlib.Core.List.{List, [], _∷_, _++_}
 use lib.ListN.{getD}
+use lib.Seq.{sets}
 use Rattle.words.specs.Bytes.{le32, bytes32}
 use Rattle.region.specs.Target.{Point}
-use Rattle.journal.specs.Drawing.{pixelIndex, Paint, dot}
+use Rattle.journal.specs.Drawing.{pixelIndex, Paint, dot, drawn}
 
 -- "Records of 12 bytes, no header: three 32-bit numbers."
 abbrev pub stride : ℕ
@@ -29,6 +31,11 @@ bytesOf (e ∷ es) = entryBytes (e .first) (e .second) (e .third) ++ bytesOf es
 unfoldable pub saved : (width : ℕ) → Paint → List Point → List ℕ → List Entry
 saved width paint [] s = []
 saved width paint (p ∷ ps) s = entry (p .x) (p .y) (getD s (pixelIndex width (p .x) (p .y)) 0) ∷ saved width paint ps (dot width paint (p .x) (p .y) s)
+
+-- what drawing these points leaves: the surface with them drawn, and the journal with their old pixels saved from record `at` on
+abbrev pub DrawnAndSaved : (width at : ℕ) → Paint → List Point → (surface journal surfaceAfter journalAfter : List ℕ) → Type 0
+DrawnAndSaved width at paint points surface journal surfaceAfter journalAfter =
+    (surfaceAfter ≡ drawn width paint points surface) × (journalAfter ≡ sets journal (at * stride) (bytesOf (saved width paint points surface)))
 
 -- "Closing record: 0xFFFFFFFF, number of pixel records, record type." No pixel record begins so: no column is as large.
 abbrev pub mark : ℕ
