@@ -165,7 +165,7 @@ int main(void) {
     run("0x51, 0xCC, 32 bits", make(record, 0x51, SIDE, SIDE, 0x00CC0020, 32, 0, 4096, 1000));
     run("0x51, 0x66, 32 bits", make(record, 0x51, SIDE, SIDE, 0x00660046, 32, 0, 4096, 1000));
     run("0x51, 0xF0, no source", make(record, 0x51, SIDE, SIDE, 0x00F00021, 0, 0, 0, 0));
-    run("0x4E, 0xCC over 0x66, 8 bits", make(record, 0x4E, SIDE, 4000, 0xCC660000, 8, 0, 4096, 4000));
+    run("0x4E, 0xCC over 0x66, 8 bits", make(record, 0x4E, SIDE, 4000, 0x66CC0000, 8, 0, 4096, 4000));
     static const struct { const char *name; uint32_t depth; int fields; } depths[] = {
         {"1 bit", 1, 0}, {"4 bits", 4, 0}, {"8 bits", 8, 0}, {"16 bits 5-6-5", 16, 1}, {"16 bits BI_RGB", 16, 0}, {"24 bits", 24, 0}, {"32 bits", 32, 0}};
     for (int k = 0; k < 7; k++) {
@@ -179,7 +179,7 @@ int main(void) {
     printf("\n| small play | library ns/play | plain C ns/play | ratio |\n|---|---|---|---|\n");
     small("16 by 16, 0x51, 0xCC, 32 bits", make(record, 0x51, 16, 16, 0x00CC0020, 32, 0, 16, 16));
     small("16 by 16, 0x72, format 1, 32 bits", make(record, 0x72, 16, 16, 0x01800000, 32, 0, 16, 16));
-    small("16 by 16, 0x4E, 0xCC over 0x66, 8 bits", make(record, 0x4E, 16, 16, 0xCC660000, 8, 0, 16, 16));
+    small("16 by 16, 0x4E, 0xCC over 0x66, 8 bits", make(record, 0x4E, 16, 16, 0x66CC0000, 8, 0, 16, 16));
     small("1 by 1, 0x51, 0xF0, no source", make(record, 0x51, 1, 1, 0x00F00021, 0, 0, 0, 0));
     return differs;
 }

@@ -167,8 +167,8 @@ uint32_t plain_play(uint32_t *surface, uint32_t width, uint8_t *journal, uint64_
     uint32_t left = cx < 0 ? (uint32_t)(x + cx) : (uint32_t)x, top = cy < 0 ? (uint32_t)(y + cy) : (uint32_t)y;
     uint32_t f[4], b[4];
     make_tables();
-    fold(f, op >> (type == 0x4E ? 24 : 16) & 255, brush);
-    fold(b, op >> 16 & 255, brush);
+    fold(f, op >> 16 & 255, brush);
+    fold(b, op >> 24, brush);
     if (present) {
         read_picture(&source, r, le32(r + parts), le32(r + parts + 8));
         uint32_t start = cxs < 0 ? xs - n : xs;

@@ -329,7 +329,7 @@ def alpha_blend(area, source, picture_size, constant, premultiplied):
 
 def mask_blit(area, foreground, background, source, mask):
     x, y, width, height = area
-    fields = struct.pack("<4i4B2i", x, y, width, height, 0, 0, background, foreground, 0, 0)
+    fields = struct.pack("<4i4B2i", x, y, width, height, 0, 0, foreground, background, 0, 0)
     fields += IDENTITY + struct.pack("<II", 0, 0)
     fields += (places(128, *source) if source else bytes(16)) + struct.pack("<iiI", 0, 0, 0)
     fields += places(128 + sum(map(len, source)), *mask)

@@ -64,7 +64,8 @@ enum lacrumont_status {
  *
  * The clipped target is the record's target as far as it lies in the clip and on the surface; it is empty where the record's
  * Bounds (both corners included) do not meet the clip on the surface. An alpha blend blends the surface's alpha with its colours; a
- * mask blit and a stretched DIB leave it.
+ * mask blit and a stretched DIB leave it. A mask blit's two raster operations are those of MAKEROP4(fore, back) of wingdi.h: bits 16
+ * to 23 are the one used where the mask's bit is 1, bits 24 to 31 the one used where it is 0.
  *
  * Accepted: every pixel of the clipped target is drawn, and the journal gets, from record *used on, one record for each (column,
  * row, old pixel; row by row, left to right) and a closing one (0xFFFFFFFF, their number, the record's type). *used grows by

@@ -105,9 +105,9 @@ def blend(source, operation=0, constant=255, form=0, target=(0, 0, 2, 2), corner
 
 
 def maskblt(source, mask, fore=0xCC, back=0xAA, target=(0, 0, 2, 2), corner=(0, 0), mask_corner=(0, 0), xform=IDENTITY):
-    "EMR_MASKBLT, 0x4E; its fixed part ends at 128. ROP4: two ignored bytes, background, foreground."
+    "EMR_MASKBLT, 0x4E; its fixed part ends at 128. ROP4: two ignored bytes, foreground, background (wingdi.h, MAKEROP4)."
     (four, four_mask), body = parts(128, source, mask)
-    rop4 = bytes([0x5A, 0xA5, back, fore])
+    rop4 = bytes([0x5A, 0xA5, fore, back])
     fixed = words(*BOUNDS, *target) + rop4 + words(*corner, *xform, GREY, 0, *four, *mask_corner, 0, *four_mask)
     return with_size(0x4E, fixed, body)
 
@@ -578,6 +578,11 @@ NUMBERS = [
     ("0x4E, 0xCC over 0xAA", "0xff0a0b0c"),
     ("0x4E, 0xCC over 0xAA", "0x800000ff"),
     ("0x4E, 0xCC over 0xAA", "0x00445566"),
+    ("MAKEROP4(0x00CC0020, 0x00AA0029)", "0xaacc0020"),
+    ("0x4E, MAKEROP4(0x00CC0020, 0x00AA0029)", "0"),
+    ("0x4E, MAKEROP4(0x00CC0020, 0x00AA0029)", "0xff0a0b0c"),
+    ("0x4E, MAKEROP4(0x00CC0020, 0x00AA0029)", "0x800000ff"),
+    ("0x4E, MAKEROP4(0x00CC0020, 0x00AA0029)", "0x00445566"),
     ("0x51, 2 to 3", "0"),
     ("0x51, 2 to 3", "0xff0a0b0c"),
     ("0x51, 2 to 3", "0x800a0b0c"),

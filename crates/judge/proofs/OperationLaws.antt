@@ -8,7 +8,7 @@ use Rattle.emr.specs.declared.Form.{Form}
 use Rattle.emr.specs.declared.Form.the-variants.{Blend, Rop4, Rop}
 use Rattle.judge.specs.declared.Action.{Action}
 use Rattle.judge.specs.declared.Action.the-variants.{Blend0, Blend1, Raster, Masked}
-use Rattle.judge.specs.Operation.{constantAlpha, alphaFormat, background, foreground, rop, actionOf, readsSource}
+use Rattle.judge.specs.Operation.{constantAlpha, alphaFormat, foreground, background, rop, actionOf, readsSource}
 
 module _ (form : Form) (field : ℕ) where
   pub action-format1 : form ≡ Blend → alphaFormat field ≡ 1 → Blend1 (constantAlpha field) ≡ actionOf form field

@@ -19,12 +19,13 @@ constantAlpha field = field / 65536 % 256
 abbrev pub alphaFormat : ℕ → ℕ
 alphaFormat field = field / 16777216
 
--- "ROP4's bytes in order: two ignored, background, foreground (document 001)."
-abbrev pub background : ℕ → ℕ
-background field = field / 65536 % 256
-
+-- Document 02, item 2: "MAKEROP4 in the Windows header wingdi.h puts the foreground in bits 16 to 23 and the background in bits 24 to 31. From
+-- now on the third byte is the foreground, the fourth the background; wingdi.h decides." The first two are ignored.
 abbrev pub foreground : ℕ → ℕ
-foreground field = field / 16777216
+foreground field = field / 65536 % 256
+
+abbrev pub background : ℕ → ℕ
+background field = field / 16777216
 
 -- "A plain ROP uses bits 16..23 of its field."
 abbrev pub rop : ℕ → ℕ

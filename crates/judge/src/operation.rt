@@ -5,7 +5,7 @@ use crate::Action;
 use dib::Header;
 use emr::Form;
 
-// ROP4: the foreground byte, then the background byte.
+// ROP4: the foreground is the lower byte (wingdi.h, MAKEROP4).
 pub fn decoded(form: Form, field: u32) -> Action
     ensures { λ r. ⌜ r ≡ actionOf form field ⌝ }
 {
@@ -18,7 +18,7 @@ pub fn decoded(form: Form, field: u32) -> Action
             }
             Action::Blend0(low)
         }
-        Form::Rop4 => Action::Masked(high, low),
+        Form::Rop4 => Action::Masked(low, high),
         Form::Rop => Action::Raster(low),
     }
 }

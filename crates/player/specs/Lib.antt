@@ -2,3 +2,4 @@ pub mod Outcome
 pub mod Calls
 pub mod Pixels
 pub mod Conditions
+pub mod Rop4Order

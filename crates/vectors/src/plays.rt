@@ -1,6 +1,8 @@
 // Whole plays: that of document 01, and one of each type whose pixels are worked out by hand.
 ghost use Prim.Native.Nat.{_+_, _≤_, _<_};
 ghost use lib.ListN.{length};
+ghost use mathlib.Core.Path.{_≡_};
+ghost use Rattle.player.specs.Rop4Order.{makeRop4};
 use crate::line;
 use meaning::Terms;
 use region::Rectangle;
@@ -201,7 +203,7 @@ fn masked_record(field: u32) -> [u8; 232] {
 
 // Without a source: the brush where the mask's bit is 1, the target kept where it is 0.
 pub fn masked() {
-    let r = masked_record(0xF0AA0000);
+    let r = masked_record(0xAAF00000);
     let mut surface = [0xFF000000u32, 0x800000FFu32, 0x00FFFFFFu32];
     shown(
         b"0x4E, 0xF0 over 0xAA",
@@ -214,22 +216,30 @@ pub fn masked() {
 }
 
 // Document 001's copy-or-keep, with a source of three 24-bit pixels, 0x0A0B0C, 0x010203 and 0x445566: copied where the mask's bit is 1.
-pub fn copied() {
-    let mut r = masked_record(0xCCAA0000);
+fn copied_by(label: &[u8], field: u32) {
+    let mut r = masked_record(field);
     parts(&mut r, 84, 180, 40, 12);
     header(&mut r, 180, 3, 24);
     words::store_u32(&mut r, 220, 0x030A0B0C);
     words::store_u32(&mut r, 224, 0x55660102);
     words::store_u32(&mut r, 228, 0x00000044);
     let mut surface = [0xFF000000u32, 0x800000FFu32, 0x00FFFFFFu32];
-    shown(
-        b"0x4E, 0xCC over 0xAA",
-        &r,
-        &mut surface,
-        0xFF0A0B0C,
-        0x800000FF,
-        0x00445566,
-    );
+    shown(label, &r, &mut surface, 0xFF0A0B0C, 0x800000FF, 0x00445566);
+}
+
+// wingdi.h: #define MAKEROP4(fore,back) (DWORD)((((back) << 8) & 0xFF000000) | (fore))
+fn makerop4(fore: u32, back: u32) -> u32
+    ensures { λ r. ⌜ r ≡ makeRop4 fore back ⌝ }
+{
+    ((back << 8) & 0xFF000000) | fore
+}
+
+// SRCCOPY is 0x00CC0020; 0x00AA0029 leaves the target as it is.
+pub fn copied() {
+    copied_by(b"0x4E, 0xCC over 0xAA", 0xAACC0000);
+    let field = makerop4(0x00CC0020, 0x00AA0029);
+    line::pixel(b"MAKEROP4(0x00CC0020, 0x00AA0029)", field, 0xAACC0020);
+    copied_by(b"0x4E, MAKEROP4(0x00CC0020, 0x00AA0029)", field);
 }
 
 // 0x51 with a source of two 24-bit pixels, 0x0A0B0C and 0x010203, on three columns: n 2, m 3 reads 0, 0, 1; mirrored 1, 1, 0.

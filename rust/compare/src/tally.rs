@@ -42,7 +42,7 @@ pub struct Tally {
     given: [[u64; 17]; 3],
     /// Accepted plays by type, and by the source's depth; the last is no source.
     depths: [[u64; 7]; 3],
-    /// Accepted plays by raster byte: 0x4E's background and foreground, 0x51's.
+    /// Accepted plays by raster byte: 0x4E's foreground and background, 0x51's.
     rasters: [[u64; 256]; 3],
     /// Blends of format 0 and 1.
     formats: [u64; 2],
@@ -125,9 +125,9 @@ impl Tally {
                 self.formats[format as usize] += 1;
                 0
             }
-            Operation::Masked { background, foreground } => {
-                self.rasters[0][background as usize] += 1;
-                self.rasters[1][foreground as usize] += 1;
+            Operation::Masked { foreground, background } => {
+                self.rasters[0][foreground as usize] += 1;
+                self.rasters[1][background as usize] += 1;
                 1
             }
             Operation::Plain { raster } => {
@@ -263,7 +263,7 @@ impl fmt::Display for Tally {
         }
         let seen = |k: usize| self.rasters[k].iter().filter(|&&n| n > 0).count();
         writeln!(f, "  format 0 {}, format 1 {}", self.formats[0], self.formats[1])?;
-        writeln!(f, "  raster bytes of 256: background {}, foreground {}, plain {}", seen(0), seen(1), seen(2))?;
+        writeln!(f, "  raster bytes of 256: foreground {}, background {}, plain {}", seen(0), seen(1), seen(2))?;
         writeln!(f, "  headers of 40 bytes {}, of 108 {}", self.headers[0], self.headers[1])?;
         writeln!(f, "  bottom-up {}, top-down {}", self.orders[0], self.orders[1])?;
         writeln!(f, "  mirrored columns {}, rows {}", self.mirrored[0], self.mirrored[1])?;

@@ -50,8 +50,8 @@ fn maskblt_backwards_with_gaps() {
     let source = Picture { header: Header::new(40, 1, 1, 24), table: vec![], pixels: words(&[11]) };
     let header = Header { used: 1, ..Header::new(40, 8, 1, 1) };
     let mask = Picture { header, table: vec![0x0033_2211], pixels: words(&[12]) };
-    let made = Record::new(MASKBLT, [5, 6, 1, 1], rop4(0xAA, 0xCC)).from([0, 0, 9, 9], source).masked([-1, 2], mask);
-    let mut hand = vec![0x4E, 236, 0, 0, 4_095, 4_095, 5, 6, 1, 1, 0xCCAA_1234, 0, 0];
+    let made = Record::new(MASKBLT, [5, 6, 1, 1], rop4(0xCC, 0xAA)).from([0, 0, 9, 9], source).masked([-1, 2], mask);
+    let mut hand = vec![0x4E, 236, 0, 0, 4_095, 4_095, 5, 6, 1, 1, 0xAACC_1234, 0, 0];
     hand.extend([ONE, 0, 0, ONE, 0, 0, BACK, 0, 196, 40, 188, 4, 0xFFFF_FFFF, 2, 0, 140, 44, 132, 4]);
     // Mask's bits, mask's header, source's bits, source's header, each behind four bytes.
     let gap = 0xE3E2_E1E0;

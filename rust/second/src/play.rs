@@ -58,7 +58,7 @@ pub fn new_pixel(record: &[u8], sound: &Sound, brush: u32, x: i64, y: i64, old: 
             let s = source_colour(record, &sound.fixed, dib, x, y, format);
             packed(blend(s, unpacked(old), constant, format))
         }
-        Operation::Masked { background, foreground } => {
+        Operation::Masked { foreground, background } => {
             // "MASKBLT uses the foreground byte at mask bit 1, the background
             // byte at 0"
             let r = if mask_bit(record, sound, x, y) == 1 { foreground } else { background };

@@ -46,7 +46,7 @@ impl Kind {
 #[derive(Clone, Copy, Debug)]
 pub enum Operation {
     Blend { code: i64, constant: i64, format: i64 },
-    Masked { background: i64, foreground: i64 },
+    Masked { foreground: i64, background: i64 },
     Plain { raster: i64 },
 }
 
@@ -208,8 +208,12 @@ fn operation(record: &[u8], kind: Kind) -> Operation {
         Kind::AlphaBlend => {
             Operation::Blend { code: record[40] as i64, constant: record[42] as i64, format: record[43] as i64 }
         }
-        // "ROP4's bytes in order: two ignored, background, foreground"
-        Kind::MaskBlt => Operation::Masked { background: record[42] as i64, foreground: record[43] as i64 },
+        // wingdi.h: MAKEROP4(fore, back) is ((back << 8) & 0xFF000000) | fore,
+        // so that bits 16 to 23 are the foreground's and 24 to 31 the background's
+        Kind::MaskBlt => {
+            let rop4 = unsigned(record, 40);
+            Operation::Masked { foreground: rop4 >> 16 & 0xFF, background: rop4 >> 24 & 0xFF }
+        }
         // "A plain ROP uses bits 16..23 of its field."
         Kind::StretchDibits => Operation::Plain { raster: unsigned(record, 68) / 65_536 % 256 },
     }

@@ -119,7 +119,7 @@ fn bad_operation(fixed: &Fixed, source: Option<&Dib>) -> bool {
             let has_alpha = dib.bits == 32 && (dib.compression == 0 || dib.alpha != 0);
             code != 0 || format > 1 || (format == 1 && !has_alpha)
         }
-        (Operation::Masked { background, foreground }, None) => needs_source(background) || needs_source(foreground),
+        (Operation::Masked { foreground, background }, None) => needs_source(foreground) || needs_source(background),
         (Operation::Plain { raster }, None) => needs_source(raster),
         (_, Some(_)) => false,
     }

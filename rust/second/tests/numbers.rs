@@ -1,6 +1,6 @@
-//! Document 01, "Numbers to check by", all of them.
+//! Document 01, "Numbers to check by", all of them, and wingdi.h's MAKEROP4.
 
-use records::{bytes::words, Header, Picture, Record, STRETCHDIBITS};
+use records::{bytes::words, Header, Picture, Record, MASKBLT, STRETCHDIBITS};
 use second::blend::{format_0, format_1};
 use second::dib::row_length;
 use second::journal::RECORD;
@@ -89,6 +89,19 @@ fn four_bits() {
     let dib = sound.source.as_ref().expect("present");
     assert_eq!(stored(&r, dib, 0, 0), 1);
     assert_eq!(stored(&r, dib, 1, 0), 15);
+}
+
+/// MAKEROP4(0x00CC0020, 0x00AA0029), by the macro 0xAACC0020: the source's colour where the mask's bit is 1, the
+/// target's where it is 0.
+#[test]
+fn copy_or_keep() {
+    let source = Picture { header: Header::new(40, 2, 1, 24), table: vec![], pixels: vec![1, 2, 3, 4, 5, 6, 0, 0] };
+    let mask = Picture { header: Header::new(40, 2, 1, 1), table: vec![0, 0], pixels: vec![0x80, 0, 0, 0] };
+    let r = Record::new(MASKBLT, [0, 0, 2, 1], 0xAACC_0020).from([0, 0, 2, 1], source).masked([0, 0], mask).bytes();
+    let mut sheet = [0xFF77_7777u32, 0x8088_8888];
+    let answer = play(&mut sheet, 2, 1, &mut vec![0; 3 * RECORD], &mut 0, &r, ALL, 0x112233);
+    assert_eq!(answer, Answer { status: 0, pixels: 2 });
+    assert_eq!(sheet, [0xFF03_0201, 0x8088_8888]);
 }
 
 #[test]

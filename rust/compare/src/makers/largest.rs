@@ -6,6 +6,7 @@ use crate::random::Random;
 use face::constants::{MOST_RECORD, MOST_SIDE};
 use records::dib::{INFO, V4};
 use records::fixed::IDENTITY;
+use records::operation::rop4;
 use records::places::{places, SIZE};
 use records::{bytes, Fixed, Header, Parts, ALPHABLEND, MASKBLT, STRETCHDIBITS};
 
@@ -57,7 +58,7 @@ pub fn mask_blit(seed: u64) -> Vec<u8> {
     let begin = places(MASKBLT).fixed;
     let mask = put(&mut bytes, Header::new(INFO, 16_384, 3_999, 1), begin, MOST_RECORD);
     let source = put(&mut bytes, Header::new(INFO, SIDE, SIDE, 4), begin + mask.header_len, mask.bits_at);
-    fixed(MASKBLT, &mut bytes, 0xCA5A_0000)
+    fixed(MASKBLT, &mut bytes, rop4(0xCA, 0x5A))
         .source([0; 4])
         .source_parts(Some(source))
         .mask_usage(0)

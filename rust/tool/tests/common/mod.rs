@@ -133,7 +133,7 @@ pub fn blend_record(area: Area, pixel: u32) -> Vec<u8> {
 /// 0x4E: the brush where a mask of 8 by 2 squares is 1, what is there where it is 0.
 pub fn mask_record(area: Area) -> Vec<u8> {
     let mask = picture(8, 2, 1, &[0, 0xFF_FFFF], &words(&[0x55, 0xAA]));
-    Record::new(MASKBLT, area, rop4(0xAA, 0xF0)).masked([0, 0], mask).bytes()
+    Record::new(MASKBLT, area, rop4(0xF0, 0xAA)).masked([0, 0], mask).bytes()
 }
 
 /// A record of a type that is not played (EMR_SETMAPMODE).

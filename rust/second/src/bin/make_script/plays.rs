@@ -87,7 +87,7 @@ pub fn mask_depths(s: &mut Script, r: &mut Random) {
         if k % 8 == 0 || k % 8 == 7 {
             let dest = somewhere(r, 6, 4);
             let mask = mask_picture(r, k);
-            let rec = record(MASKBLT, dest, rop4(0xAA, 0xCC));
+            let rec = record(MASKBLT, dest, rop4(0xCC, 0xAA));
             let rec = rec.from([1, 1, 0, 0], p).masked([2, 1], mask).gapped(3, k % 8 == 7);
             s.play(WHOLE, r.next(), &rec.bytes());
         }
@@ -209,13 +209,13 @@ pub fn masks_and_rasters(s: &mut Script, r: &mut Random) {
         ([1_000_000, -1_000_000], picture(r, 40, 33, -2, 1, 1)), // 33 columns: rows of 8 bytes
         ([0, 0], picture(r, 40, 1, 1, 1, 2)),                    // one pixel for all
     ] {
-        let rec = record(MASKBLT, [3, 2, 18, 15], rop4(0x66, 0xCC));
+        let rec = record(MASKBLT, [3, 2, 18, 15], rop4(0xCC, 0x66));
         let rec = rec.from([2, 1, 0, 0], p.clone()).masked(corner, mask);
         s.play([2, 3, 20, 16], 0x0040_8020, &rec.bytes());
     }
-    for (background, foreground) in [(0xF0, 0x0F), (0xAA, 0x5A), (0x55, 0xA5)] {
+    for (foreground, background) in [(0x0F, 0xF0), (0x5A, 0xAA), (0xA5, 0x55)] {
         // No source: neither byte needs one; its fields are nonsense, usage too.
-        let mut rec = record(MASKBLT, [-2, 4, 14, 9], rop4(background, foreground));
+        let mut rec = record(MASKBLT, [-2, 4, 14, 9], rop4(foreground, background));
         rec = rec.masked([1, 1], mask_picture(r, background as usize));
         rec.source_at = [i32::MIN, i32::MAX, 0, 0];
         rec.usage = 9;
@@ -223,7 +223,7 @@ pub fn masks_and_rasters(s: &mut Script, r: &mut Random) {
     }
     // One picture for source and mask: both name the same bytes.
     let shared = picture(r, 40, 12, 10, 1, 2);
-    let rec = record(MASKBLT, [6, 6, 12, 10], rop4(0x11, 0xB8)).from([0, 0, 0, 0], shared);
+    let rec = record(MASKBLT, [6, 6, 12, 10], rop4(0xB8, 0x11)).from([0, 0, 0, 0], shared);
     let mut bytes = rec.bytes();
     for k in 0..4 {
         bytes = with(&bytes, 112 + 4 * k, get(&bytes, 84 + 4 * k));
@@ -270,7 +270,7 @@ pub fn readings(s: &mut Script, r: &mut Random) {
     s.read_source(&brushed([0, 0, 1, 1], 0xF0).bytes()); // source absent: 0 and empty
 
     // MASKBLT: the mask's own reading, with its palette, and the source's.
-    let rec = record(MASKBLT, [0, 0, 4, 4], rop4(0xAA, 0xCC));
+    let rec = record(MASKBLT, [0, 0, 4, 4], rop4(0xCC, 0xAA));
     let rec = rec.from([0, 0, 0, 0], picture(r, 108, 4, 4, 32, 2)).masked([0, 0], mask_picture(r, 3));
     s.read_mask(&rec.bytes());
     s.read_source(&rec.bytes());

@@ -54,7 +54,7 @@ pub fn refusals_6_and_7(s: &mut Script, r: &mut Random) {
 
     let mask = picture(r, 40, 4, 4, 1, 2);
     let blt =
-        record(MASKBLT, [0, 0, 2, 2], rop4(0xAA, 0xCC)).from([0, 0, 0, 0], p.clone()).masked([0, 0], mask).bytes();
+        record(MASKBLT, [0, 0, 2, 2], rop4(0xCC, 0xAA)).from([0, 0, 0, 0], p.clone()).masked([0, 0], mask).bytes();
     s.read_mask(&with(&blt, 112, 124)); // the mask's header in the fixed part: 6
     s.read_source(&with(&blt, 120, 4)); // the mask's bits too, asked for the source: 6
     s.read_mask(&with(&blt, 124, 17)); // the mask's bits end past Size: 6
@@ -80,7 +80,7 @@ pub fn refusals_6_and_7(s: &mut Script, r: &mut Random) {
         zeros = with(&zeros, place, 0x8000_0000);
     }
     s.play(WHOLE, 0, &zeros); // four negative zeros pass
-    let bare = record(MASKBLT, [0, 0, 2, 2], rop4(0xF0, 0x0F)).masked([0, 0], picture(r, 40, 2, 2, 1, 2));
+    let bare = record(MASKBLT, [0, 0, 2, 2], rop4(0x0F, 0xF0)).masked([0, 0], picture(r, 40, 2, 2, 1, 2));
     s.play(WHOLE, 0, &with(&bare.bytes(), 52, 0)); // XformSrc is judged without a source: 7
     let none = record(ALPHABLEND, [0, 0, 2, 2], 0).bytes();
     s.read_source(&with(&none, 64, 0)); // 7, before the absent source's 11
@@ -175,7 +175,7 @@ fn faults_of_both_pictures(s: &mut Script, r: &mut Random) {
     let bad_masks = picture(r, 40, 2, 2, 16, 0).bitfields([0, 0x7E0, 0x1F, 0]);
     let good = picture(r, 40, 2, 2, 16, 0);
     let blt = |source: &Picture, mask: &Picture| {
-        record(MASKBLT, [0, 0, 2, 2], rop4(0xAA, 0xCC))
+        record(MASKBLT, [0, 0, 2, 2], rop4(0xCC, 0xAA))
             .from([0, 0, 0, 0], source.clone())
             .masked([0, 0], mask.clone())
             .bytes()
@@ -223,12 +223,12 @@ fn absent_sources(s: &mut Script, mask: &Picture) {
         // Raster bytes that need the absent source, by each pair of bits: 11.
         s.read_source(&brushed([0, 0, 3, 3], byte).bytes());
     }
-    for (background, foreground) in [(0xCC, 0xAA), (0xAA, 0xCC)] {
+    for (foreground, background) in [(0xAA, 0xCC), (0xCC, 0xAA)] {
         // One byte of two needs the source: 11.
-        let rec = record(MASKBLT, [0, 0, 3, 3], rop4(background, foreground));
+        let rec = record(MASKBLT, [0, 0, 3, 3], rop4(foreground, background));
         s.play(WHOLE, 0, &rec.masked([0, 0], mask.clone()).bytes());
     }
-    s.play(WHOLE, 0, &record(MASKBLT, [0, 0, 3, 3], rop4(0xAA, 0xCC)).bytes()); // 11, before 13
+    s.play(WHOLE, 0, &record(MASKBLT, [0, 0, 3, 3], rop4(0xCC, 0xAA)).bytes()); // 11, before 13
 }
 
 fn bad_geometry(s: &mut Script, p32: &Picture, blend: &[u8]) {
@@ -268,7 +268,7 @@ fn bad_geometry(s: &mut Script, p32: &Picture, blend: &[u8]) {
 /// 12 and 13 in 0x4E.
 fn bad_mask_blits(s: &mut Script, r: &mut Random, p32: &Picture, mask: &Picture) {
     let blt = |m: Picture| {
-        record(MASKBLT, [0, 0, 3, 3], rop4(0xAA, 0xCC)).from([0, 0, 0, 0], p32.clone()).masked([0, 0], m).bytes()
+        record(MASKBLT, [0, 0, 3, 3], rop4(0xCC, 0xAA)).from([0, 0, 0, 0], p32.clone()).masked([0, 0], m).bytes()
     };
     let good = blt(mask.clone());
     s.play(WHOLE, 0, &with(&with(&good, 32, -3i32 as u32), 44, 3)); // negative extent: 12
@@ -278,7 +278,7 @@ fn bad_mask_blits(s: &mut Script, r: &mut Random, p32: &Picture, mask: &Picture)
     let deep = blt(picture(r, 40, 3, 3, 4, 16));
     s.play(WHOLE, 0, &with(&deep, 100, 1_000_001)); // 12, before the mask's 13
     s.play(WHOLE, 0, &deep); // a mask of 4 bits: 13
-    let mut rec = record(MASKBLT, [0, 0, 3, 3], rop4(0xAA, 0xCC)).from([0, 0, 0, 0], p32.clone());
+    let mut rec = record(MASKBLT, [0, 0, 3, 3], rop4(0xCC, 0xAA)).from([0, 0, 0, 0], p32.clone());
     rec.mask_corner = [i32::MIN, i32::MAX];
     rec.mask_usage = 7;
     s.play(WHOLE, 0, &rec.bytes()); // no mask; its corner and usage not looked at: 13
