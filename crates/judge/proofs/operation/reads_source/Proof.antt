@@ -5,10 +5,10 @@ use Rattle.judge.proofs.operation.reads_source.Statement.{statement}
 use Rattle.judge.proofs.operation.reads_source.Tie as tie
 
 returns-3 : tie.Need-returns-3
-returns-3 c = search reads-masked
+returns-3 c = reads-masked _ _ _ (c .before .before .before .a .given .1) (c .before .needs-source .ensures) (c .needs-source2 .ensures)
 
 returns-4 : tie.Need-returns-4
-returns-4 c = search reads-raster
+returns-4 c = reads-raster _ _ (c .before .before .a2 .given .1) (c .needs-source3 .ensures)
 
 pub reads-source-spec : {M : Type 1} → statement M
 reads-source-spec =
