@@ -4,7 +4,7 @@ use mathlib.Core.Path.{_≡_, ap, ap₂, _∙_}
 use mathlib.Core.List.{List}
 use Prim.Native.Nat.{ℕ, _+_, _*_, _/_, _%_, _^_, _<_}
 use native.Mathlib.Omega.{arith}
-use lib.Bits.{bitOr, and-high, or-shifted}
+use lib.Bits.{bitAnd, bitOr, and-high, or-shifted, or-shr, or-mod, or-zero-l}
 use Rattle.words.specs.Bytes.{byteAt, le, le32}
 use Rattle.emr.specs.Types.{maskBlt, rowOf}
 use Rattle.emr.specs.Fixed.{fieldsAt}
@@ -20,14 +20,23 @@ use Rattle.player.proofs.Conditions.{condition2}
 
 -- ---- the macro
 
-sum : (fore back : ℕ) → fore < 2 ^ 24 → makeRop4 fore back ≡ back * 256 % 2 ^ 32 / 2 ^ 24 % 256 * 2 ^ 24 + fore
-sum fore back l = ap (λ (n : ℕ). bitOr n fore) (and-high (back * 256 % 2 ^ 32) 8 24) ∙ or-shifted (back * 256 % 2 ^ 32 / 2 ^ 24 % 256) 24 fore l
+module _ (fore back : ℕ) where
+  high : bitAnd (back * 256 % 2 ^ 32) 0xFF000000 ≡ rop back * 2 ^ 24
+  high = and-high (back * 256 % 2 ^ 32) 8 24 ∙ omega arith
 
-made-foreground : (fore back : ℕ) → fore < 2 ^ 24 → foreground (makeRop4 fore back) ≡ rop fore
-made-foreground fore back l = ap foreground (sum fore back l) ∙ omega arith
+  made : makeRop4 fore back ≡ bitOr (rop back * 2 ^ 24) fore
+  made = ap (λ (n : ℕ). bitOr n fore) high
 
-made-background : (fore back : ℕ) → fore < 2 ^ 24 → background (makeRop4 fore back) ≡ rop back
-made-background fore back l = ap background (sum fore back l) ∙ omega arith
+  below : rop back * 2 ^ 24 / 2 ^ 16 % 2 ^ 8 ≡ 0
+  below = omega arith
+
+  made-foreground : foreground (makeRop4 fore back) ≡ rop fore
+  made-foreground =
+      ap foreground made ∙ ap (λ (n : ℕ). n % 256) (or-shr (rop back * 2 ^ 24) fore 16) ∙ or-mod (rop back * 2 ^ 24 / 2 ^ 16) (fore / 2 ^ 16) 8
+      ∙ ap (λ (n : ℕ). bitOr n (rop fore)) below ∙ or-zero-l (rop fore)
+
+  made-background : fore < 2 ^ 24 → background (makeRop4 fore back) ≡ rop back
+  made-background l = ap background (made ∙ or-shifted (rop back) 24 fore l) ∙ omega arith
 
 -- ---- the bytes
 

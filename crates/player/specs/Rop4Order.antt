@@ -34,9 +34,9 @@ Blitted width p m k t o = (x y : ℕ) → Covers t x y
     (pixel width (m .surface) x y)
 
 pub record Rop4Order : Type 0 where
-  -- "MAKEROP4 .. puts the foreground in bits 16 to 23 and the background in bits 24 to 31": what it makes of two ternary operations, of 24 bits
-  -- each, is read back as the bytes that each has as a plain ROP
-  pub made-foreground : (fore back : ℕ) → fore < 2 ^ 24 → foreground (makeRop4 fore back) ≡ rop fore
+  -- "MAKEROP4 .. puts the foreground in bits 16 to 23 and the background in bits 24 to 31": what it makes of two ternary operations is read back
+  -- as the bytes that each has as a plain ROP. Those have 24 bits; what fore has above them falls into the background
+  pub made-foreground : (fore back : ℕ) → foreground (makeRop4 fore back) ≡ rop fore
   pub made-background : (fore back : ℕ) → fore < 2 ^ 24 → background (makeRop4 fore back) ≡ rop back
   -- "From now on the third byte is the foreground, the fourth the background"
   pub third : (s : List ℕ) (at : ℕ) → Bytes s → foreground (le32 s at) ≡ byteAt s (at + 2)
