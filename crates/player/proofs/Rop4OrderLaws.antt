@@ -15,7 +15,7 @@ use Rattle.composite.specs.declared.Rule.the-variants.{Masked}
 use Rattle.composite.specs.Paints.{paintedBy}
 use Rattle.meaning.specs.Meaning.{ruleOf, meaningOf}
 use Rattle.player.specs.Pixels.{Bytes}
-use Rattle.player.specs.Rop4Order.{makeRop4, blitted, Rop4Order}
+use Rattle.player.specs.Rop4Order.{makeRop4, blitPixel, Rop4Order}
 use Rattle.player.proofs.Conditions.{condition2}
 
 -- ---- the macro
@@ -57,7 +57,7 @@ rule s b e brush =
     ∙ ap₂ (λ (f g : ℕ). Masked f g brush) (third s 40 b) (fourth s 40 b)
 
 painted : (s : List ℕ) → Bytes s → le32 s 0 ≡ maskBlt → (brush source bit old : ℕ)
-    → paintedBy (meaningOf s .rule brush) source bit old ≡ blitted s brush source bit old
+    → paintedBy (meaningOf s .rule brush) source bit old ≡ blitPixel s brush source bit old
 painted s b e brush source bit old = ap (λ (r : Rule). paintedBy r source bit old) (rule s b e brush)
 
 pub rop4-order : Rop4Order

@@ -22,15 +22,15 @@ abbrev pub makeRop4 : (fore back : ℕ) → ℕ
 makeRop4 fore back = bitOr (bitAnd (back * 256 % 2 ^ 32) 0xFF000000) fore
 
 -- a pixel by the record's own bytes 42 and 43, the third and the fourth of ROP4
-abbrev pub blitted : (s : List ℕ) (brush source bit old : ℕ) → ℕ
-blitted s brush source bit old =
+abbrev pub blitPixel : (s : List ℕ) (brush source bit old : ℕ) → ℕ
+blitPixel s brush source bit old =
     cond (eqb bit 1) (rasterPixel (byteAt s 42) brush source old) (rasterPixel (byteAt s 43) brush source old)
 
 -- the mask blit p left o; its record means k and its clipped target is t
 abbrev pub Blitted : (width : ℕ) → Play → Memory → Meaning → Target → Outcome → Type 0
 Blitted width p m k t o = (x y : ℕ) → Covers t x y
     → pixel width (o .after .surface) x y
-    ≡ blitted (p .bytes) (p .terms .brush) (k .source (within (t .columns) x) (within (t .rows) y)) (k .bit (within (t .columns) x) (within (t .rows) y))
+    ≡ blitPixel (p .bytes) (p .terms .brush) (k .source (within (t .columns) x) (within (t .rows) y)) (k .bit (within (t .columns) x) (within (t .rows) y))
     (pixel width (m .surface) x y)
 
 pub record Rop4Order : Type 0 where
