@@ -11,7 +11,7 @@ use region::Rectangle;
 mod geometry;
 mod operation;
 
-// What is done to a pixel, decoded from the operation field: a blend by its constant alpha, or raster operations (masked: foreground, background).
+// What is done to a pixel, decoded from the operation field: a blend by its constant alpha, a foreground and a background raster operation, or one.
 pub enum Action {
     Blend0(u8),
     Blend1(u8),

@@ -1,21 +1,28 @@
--- Item 2 of document 02: the field's bytes are its digits to the base 256, the macro's or adds numbers without a common bit, and a mask blit's
--- rule is the one that its field decodes to; the rest is condition 2. Assumes nothing.
+-- Item 2 of document 02: the macro's two operands have no bit in common, a field's bytes are its digits to the base 256, and a mask blit's rule
+-- is what its field decodes to; the rest is condition 2. Assumes nothing.
 use mathlib.Core.Path.{_≡_, ap, ap₂, _∙_}
 use mathlib.Core.List.{List}
-use Prim.Native.Nat.{ℕ, _+_, _*_, _/_, _%_, _^_, _<_}
+use Prim.Native.Nat.{ℕ, _+_, _*_, _/_, _%_, _^_, _≤_, _<_}
 use native.Mathlib.Omega.{arith}
 use lib.Bits.{bitAnd, bitOr, and-high, or-shifted, or-shr, or-mod, or-zero-l}
 use Rattle.words.specs.Bytes.{byteAt, le, le32}
 use Rattle.emr.specs.Types.{maskBlt, rowOf}
 use Rattle.emr.specs.Fixed.{fieldsAt}
+use Rattle.region.specs.declared.Target.{Target}
+use Rattle.region.specs.Exact.{Covers}
+use Rattle.judge.specs.declared.Action.{Action}
+use Rattle.judge.specs.declared.Action.the-variants as act
 use Rattle.judge.specs.Operation.{foreground, background, rop, actionOf}
 use Rattle.judge.specs.Record.{recordOf}
+use Rattle.memory.specs.Memory.{Memory}
 use Rattle.composite.specs.declared.Rule.{Rule}
 use Rattle.composite.specs.declared.Rule.the-variants.{Masked}
 use Rattle.composite.specs.Paints.{paintedBy}
-use Rattle.meaning.specs.Meaning.{ruleOf, meaningOf}
-use Rattle.player.specs.Pixels.{Bytes}
-use Rattle.player.specs.Rop4Order.{makeRop4, blitPixel, Rop4Order}
+use Rattle.meaning.specs.Meaning.{Meaning, ruleOf, meaningOf, targetIn}
+use Rattle.meaning.proofs.MaskBitLaws.{one-or-zero}
+use Rattle.player.specs.Calls.{Play, playOutcome}
+use Rattle.player.specs.Pixels.{Bytes, pixel}
+use Rattle.player.specs.Rop4Order.{makeRop4, sourceAt, bitAt, Blitted, Rop4Order}
 use Rattle.player.proofs.Conditions.{condition2}
 
 -- ---- the macro
@@ -48,17 +55,45 @@ fourth : (s : List ℕ) (at : ℕ) → Bytes s → background (le32 s at) ≡ by
 unfolding le
 fourth s at b = omega (arith, b (at + 0), b (at + 1), b (at + 2), b (at + 3))
 
--- ---- the play
+-- ---- the record
+
+decoded : (s : List ℕ) → Bytes s → le32 s 0 ≡ maskBlt → recordOf s .action ≡ act.Masked (byteAt s 42) (byteAt s 43)
+unfolding recordOf fieldsAt rowOf
+decoded s b e =
+    ap (λ (type : ℕ). actionOf (rowOf type .form) (le32 s (rowOf type .at .operation))) e ∙ ap₂ act.Masked (third s 40 b) (fourth s 40 b)
 
 rule : (s : List ℕ) → Bytes s → le32 s 0 ≡ maskBlt → (brush : ℕ) → meaningOf s .rule brush ≡ Masked (byteAt s 42) (byteAt s 43) brush
-unfolding meaningOf recordOf fieldsAt rowOf
-rule s b e brush =
-    ap (λ (type : ℕ). ruleOf (actionOf (rowOf type .form) (le32 s (rowOf type .at .operation))) brush) e
-    ∙ ap₂ (λ (f g : ℕ). Masked f g brush) (third s 40 b) (fourth s 40 b)
+unfolding meaningOf
+rule s b e brush = ap (λ (a : Action). ruleOf a brush) (decoded s b e)
 
-painted : (s : List ℕ) → Bytes s → le32 s 0 ≡ maskBlt → (brush source bit old : ℕ)
-    → paintedBy (meaningOf s .rule brush) source bit old ≡ blitPixel s brush source bit old
-painted s b e brush source bit old = ap (λ (r : Rule). paintedBy r source bit old) (rule s b e brush)
+bit : (s : List ℕ) (i j : ℕ) → meaningOf s .bit i j ≤ 1
+unfolding meaningOf
+bit s i j = one-or-zero s (recordOf s) i j
+
+-- ---- the play
+
+module _ (w h : ℕ) (p : Play) (m : Memory) (b : Bytes (p .bytes)) (e : le32 (p .bytes) 0 ≡ maskBlt) (z : playOutcome w h p m .status ≡ 0) (x y : ℕ) where
+  abbrev k : Meaning
+  k = meaningOf (p .bytes)
+
+  abbrev t : Target
+  t = targetIn w h k (p .terms .clip)
+
+  -- by the record's own bytes, at a mask bit
+  abbrev by : ℕ → ℕ
+  by bit = paintedBy (Masked (byteAt (p .bytes) 42) (byteAt (p .bytes) 43) (p .terms .brush)) (sourceAt k t x y) bit (pixel w (m .surface) x y)
+
+  painted : Covers t x y → pixel w (playOutcome w h p m .after .surface) x y ≡ by (bitAt k t x y)
+  painted c =
+      condition2 w h p m .accepted z .pixels .inside x y c
+      ∙ ap (λ (r : Rule). paintedBy r (sourceAt k t x y) (bitAt k t x y) (pixel w (m .surface) x y)) (rule (p .bytes) b e (p .terms .brush))
+
+  blitted : Covers t x y → Blitted w p k t (m .surface) (playOutcome w h p m .after .surface) x y
+  blitted c = record {
+    one-or-zero = bit (p .bytes) _ _;
+    at-one = λ o. painted c ∙ ap by o;
+    at-zero = λ o. painted c ∙ ap by o;
+  }
 
 pub rop4-order : Rop4Order
 rop4-order = record {
@@ -66,5 +101,6 @@ rop4-order = record {
   made-background = made-background;
   third = third;
   fourth = fourth;
-  condition2 = λ w h p m b e z x y c. condition2 w h p m .accepted z .pixels .inside x y c ∙ painted (p .bytes) b e _ _ _ _;
+  decoded = decoded;
+  condition2 = blitted;
 }

@@ -1,4 +1,4 @@
-//! A second player of EMF bitmap records, written from the papers alone.
+//! A second player of EMF bitmap records, written from the papers and wingdi.h's MAKEROP4 alone.
 //!
 //! It is slow and plain: one pixel at a time, wide integers, no tables.
 //! Words in quotation marks are document 01's, unless another is named;
