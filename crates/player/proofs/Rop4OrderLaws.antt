@@ -21,8 +21,8 @@ use Rattle.composite.specs.Paints.{paintedBy}
 use Rattle.meaning.specs.Meaning.{Meaning, ruleOf, meaningOf, targetIn}
 use Rattle.meaning.proofs.MaskBitLaws.{one-or-zero}
 use Rattle.player.specs.Calls.{Play, playOutcome}
-use Rattle.player.specs.Pixels.{Bytes, pixel}
-use Rattle.player.specs.Rop4Order.{makeRop4, sourceAt, bitAt, Blitted, Rop4Order}
+use Rattle.player.specs.Pixels.{Bytes, pixel, sourceAt, bitAt}
+use Rattle.player.specs.Rop4Order.{makeRop4, Blitted, Rop4Order}
 use Rattle.player.proofs.Conditions.{condition2}
 
 -- ---- the macro

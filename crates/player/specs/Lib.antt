@@ -3,3 +3,4 @@ pub mod Calls
 pub mod Pixels
 pub mod Conditions
 pub mod Rop4Order
+pub mod CutInPlays

@@ -23,14 +23,18 @@ Bytes s = (k : ℕ) → byteAt s k < 256
 abbrev pub pixel : (width : ℕ) → List ℕ → (x y : ℕ) → ℕ
 pixel width s x y = getD s (pixelIndex width x y) 0
 
+-- of the pixel at x, y of a clipped target: its source pixel and its mask bit, those of its column and row in the whole target
+abbrev pub sourceAt : Meaning → Target → (x y : ℕ) → ℕ
+sourceAt k t x y = k .source (within (t .columns) x) (within (t .rows) y)
+
+abbrev pub bitAt : Meaning → Target → (x y : ℕ) → ℕ
+bitAt k t x y = k .bit (within (t .columns) x) (within (t .rows) y)
+
 -- the play p made the surface `after` of the surface s; its record means k and its clipped target is t
 pub record Pixels (width height : ℕ) (p : Play) (s after : List ℕ) (k : Meaning) (t : Target) : Type 0 where
-  -- "each pixel of the clipped target the number the published equations or raster operation define": of the OLD pixel, and of the
-  -- source pixel and mask bit of its column and row in the whole target
+  -- "each pixel of the clipped target the number the published equations or raster operation define": of the OLD pixel
   pub inside : (x y : ℕ) → Covers t x y
-      → pixel width after x y
-      ≡ paintedBy (k .rule (p .terms .brush)) (k .source (within (t .columns) x) (within (t .rows) y))
-      (k .bit (within (t .columns) x) (within (t .rows) y)) (pixel width s x y)
+      → pixel width after x y ≡ paintedBy (k .rule (p .terms .brush)) (sourceAt k t x y) (bitAt k t x y) (pixel width s x y)
   -- which pixels those are: "every pixel of target and cut clip", where Bounds meet it
   pub target : Bytes (p .bytes) → Words (p .terms .clip) → Exact width height (p .terms .clip) (k .bounds) (k .x) (k .y) (k .cx) (k .cy) t
   -- "changes no other"

@@ -5,7 +5,6 @@ use Prim.Native.Nat.{ℕ, _+_, _*_, _%_, _^_, _≤_, _<_}
 use lib.Bits.{bitAnd, bitOr}
 use Rattle.words.specs.Bytes.{byteAt, le32}
 use Rattle.region.specs.declared.Target.{Target}
-use Rattle.region.specs.Axis.{within}
 use Rattle.region.specs.Exact.{Covers}
 use Rattle.pixel.specs.Raster.{rasterPixel}
 use Rattle.emr.specs.Types.{maskBlt}
@@ -15,18 +14,11 @@ use Rattle.judge.specs.Record.{recordOf}
 use Rattle.memory.specs.Memory.{Memory}
 use Rattle.meaning.specs.Meaning.{Meaning, meaningOf, targetIn}
 use Rattle.player.specs.Calls.{Play, playOutcome}
-use Rattle.player.specs.Pixels.{Bytes, pixel}
+use Rattle.player.specs.Pixels.{Bytes, pixel, sourceAt, bitAt}
 
 -- wingdi.h: #define MAKEROP4(fore,back) (DWORD)((((back) << 8) & 0xFF000000) | (fore)); what a shift moves past 32 bits is lost
 abbrev pub makeRop4 : (fore back : ℕ) → ℕ
 makeRop4 fore back = bitOr (bitAnd (back * 256 % 2 ^ 32) 0xFF000000) fore
-
--- of the pixel at x, y of a clipped target: its source pixel and its mask bit
-abbrev pub sourceAt : Meaning → Target → (x y : ℕ) → ℕ
-sourceAt k t x y = k .source (within (t .columns) x) (within (t .rows) y)
-
-abbrev pub bitAt : Meaning → Target → (x y : ℕ) → ℕ
-bitAt k t x y = k .bit (within (t .columns) x) (within (t .rows) y)
 
 -- what the mask blit p, which means k, made of the pixel at x, y of its clipped target t; bytes 42 and 43 are ROP4's third and fourth
 pub record Blitted (width : ℕ) (p : Play) (k : Meaning) (t : Target) (before after : List ℕ) (x y : ℕ) : Type 0 where
