@@ -94,8 +94,9 @@ static void put(uint8_t *j, uint32_t a, uint32_t b, uint32_t c) {
 }
 
 static uint32_t blend0(uint32_t s, uint32_t d, uint32_t c) { return (s * c + d * (255 - c) + 127) / 255; }
+static uint32_t uncut1(uint32_t s, uint32_t a, uint32_t d, uint32_t c) { return (255 * s * c + (65025 - a * c) * d + 32512) / 65025; }
 static uint32_t blend1(uint32_t s, uint32_t a, uint32_t d, uint32_t c) {
-    uint32_t v = (255 * s * c + (65025 - a * c) * d + 32512) / 65025;
+    uint32_t v = uncut1(s, a, d, c);
     return v > 255 ? 255 : v;
 }
 
@@ -112,7 +113,7 @@ static void row_blend1(uint32_t *restrict d, uint8_t *restrict j, const uint32_t
     for (uint32_t i = 0; i < n; i++) {
         uint32_t o = d[i], v = s[i], a = v >> 24;
         put(j + RECORD * i, x + i, y, o);
-        d[i] = blend1(a, a, o >> 24, c) << 24 | blend1(v >> 16 & 255, a, o >> 16 & 255, c) << 16 | blend1(v >> 8 & 255, a, o >> 8 & 255, c) << 8
+        d[i] = uncut1(a, a, o >> 24, c) << 24 | blend1(v >> 16 & 255, a, o >> 16 & 255, c) << 16 | blend1(v >> 8 & 255, a, o >> 8 & 255, c) << 8
              | blend1(v & 255, a, o & 255, c);
     }
 }

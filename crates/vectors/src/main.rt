@@ -8,6 +8,7 @@ mod records;
 
 fn main() {
     numbers::blends();
+    numbers::uncut();
     numbers::whole_pixels();
     numbers::raster();
     numbers::needs_source();

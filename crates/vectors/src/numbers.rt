@@ -32,6 +32,30 @@ pub fn blends() {
     );
 }
 
+// The channels that need no cut. Where alpha 0 stays at 255, a colour of 255 comes to 510 and is cut: the last line above.
+pub fn uncut() {
+    line::number(
+        b"format 0: s 255, d 255, c 128",
+        blend::channel0(255, 255, 128) as u64,
+        255,
+    );
+    line::number(
+        b"format 1, alpha: a 255, c 128, d 255",
+        blend::alpha1(255, 255, 128) as u64,
+        255,
+    );
+    line::number(
+        b"format 1, alpha: a 0, c 255, d 255",
+        blend::alpha1(0, 255, 255) as u64,
+        255,
+    );
+    line::number(
+        b"format 1, alpha: a 128, c 255, d 200",
+        blend::alpha1(128, 200, 255) as u64,
+        228,
+    );
+}
+
 pub fn whole_pixels() {
     line::pixel(
         b"format 0: pixel 0xFFC8C8C8 over 0xFF646464, c 128",
@@ -42,6 +66,16 @@ pub fn whole_pixels() {
         b"format 1: pixel 0x80646464 over 0xC8C8C8C8, c 255",
         blend::pixel1(0x80646464, 0xC8C8C8C8, 255),
         0xE4C8C8C8,
+    );
+    line::pixel(
+        b"format 0: pixel 0xFF00FF00 over 0x00FF00FF, c 128",
+        blend::pixel0(0xFF00FF00, 0x00FF00FF, 128),
+        0x807F807F,
+    );
+    line::pixel(
+        b"format 1: pixel 0x00FF3201 over 0xC8FFC8FF, c 255",
+        blend::pixel1(0x00FF3201, 0xC8FFC8FF, 255),
+        0xC8FFFAFF,
     );
 }
 

@@ -167,6 +167,7 @@ fn blend(label: &[u8], field: u32, source: u32, old: u32, new: u32) {
 }
 
 // Format 0: s 200, d 100, c 128 gives 150. Format 1: s 100, a 128, c 255, d 200 gives 200; its alpha, 128 over 200, gives 228.
+// At alpha 0 and c 255 source and target are added: 510 and 256 are cut to 255, 250 is not, and alpha stays 200.
 pub fn blends() {
     blend(
         b"0x72, format 0",
@@ -181,6 +182,13 @@ pub fn blends() {
         0x80646464,
         0xC8C8C8C8,
         0xE4C8C8C8,
+    );
+    blend(
+        b"0x72, format 1, colours above their alpha",
+        0x01FF0000,
+        0x00FF3201,
+        0xC8FFC8FF,
+        0xC8FFFAFF,
     );
 }
 

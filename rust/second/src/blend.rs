@@ -3,7 +3,9 @@
 use crate::arithmetic::nearest;
 use crate::colour::Colour;
 
-/// "Each is exact, then rounded to nearest, then cut to 255 where above."
+/// "Each is exact, then rounded to nearest, then cut to 255 where above." Every
+/// channel is cut here, as document 01 says it: the library cuts the colours of
+/// format 1 only (document 02, item 10), and is compared with this.
 fn finish(top: i128, bottom: i128) -> i64 {
     let n = nearest(top, bottom);
     if n > 255 {
