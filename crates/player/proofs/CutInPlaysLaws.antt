@@ -11,17 +11,17 @@ use Rattle.composite.specs.Paints.{paintedBy}
 use Rattle.meaning.specs.Meaning.{Meaning, meaningOf, targetIn}
 use Rattle.meaning.proofs.ConstantAlphaLaws.{AlphaInByte, alpha-in-byte}
 use Rattle.player.specs.Pixels.{pixel, sourceAt, bitAt}
-use Rattle.player.specs.CutInPlays.{Cuts, CutInPlays}
+use Rattle.player.specs.CutInPlays.{Becomes, CutInPlays}
 use Rattle.player.proofs.Conditions.{condition2}
 
 -- the rule's own byte
 alpha-of : (rule : Rule) (s : List ℕ) (brush : ℕ) → meaningOf s .rule brush ≡ rule → AlphaInByte rule
 alpha-of rule s brush e = subst AlphaInByte e (alpha-in-byte s brush)
 
--- a rule that paints what `cutOver` gives, at a constant alpha that is a byte
-by-rule : (rule : Rule) (cutOver : (source old : ℕ) → ℕ) → (AlphaInByte rule → (source bit old : ℕ) → paintedBy rule source bit old ≡ cutOver source old)
-    → Cuts rule cutOver
-by-rule rule cutOver law w h p m z e x y c =
+-- a rule that, at a constant alpha that is a byte, paints what `over` gives
+by-rule : (rule : Rule) (over : (source old : ℕ) → ℕ)
+    → (AlphaInByte rule → (source bit old : ℕ) → paintedBy rule source bit old ≡ over source old) → Becomes rule over
+by-rule rule over law w h p m z e x y c =
     let k : Meaning = meaningOf (p .bytes) in
     let t : Target = targetIn w h k (p .terms .clip) in
     let old : ℕ = pixel w (m .surface) x y in

@@ -44,7 +44,8 @@ recordsOf width s t kind =
     map (λ (q : Point). entry (q .x) (q .y) (pixel width s (q .x) (q .y))) (pointsIn t) ++ (closing (t .rows .count * t .columns .count) kind ∷ [])
 
 -- "An accepted play gives each pixel of the clipped target the number the published equations or raster operation define, rounded once to
--- nearest and cut to 255, changes no other, and answers how many there were." k is what the record means, t its clipped target
+-- nearest and cut to 255, changes no other, and answers how many there were." k is what the record means, t its clipped target;
+-- that the cut is true of all four channels of a blend is CutInPlays.antt
 pub record Played (width height : ℕ) (p : Play) (m : Memory) (k : Meaning) (t : Target) (o : Outcome) : Type 0 where
   pub long : length (o .after .surface) ≡ length (m .surface)
   pub pixels : Pixels width height p (m .surface) (o .after .surface) k t
