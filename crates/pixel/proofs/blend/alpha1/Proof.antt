@@ -1,4 +1,4 @@
--- Adding half the divisor before dividing rounds to nearest, and a mean of two bytes is a byte.
+-- The sum is the definition's, taken as the target's alpha and a part of what it lacks to 255; half the divisor rounds it to nearest.
 use native.Mathlib.Omega.{arith}
 use Rattle.pixel.specs.Round.{roundDiv}
 use Rattle.pixel.specs.Blend.{uncut1, blendAlpha1}
@@ -8,7 +8,7 @@ use Rattle.pixel.proofs.blend.alpha1.Tie as tie
 
 returns : tie.Need-returns
 unfolding roundDiv uncut1 blendAlpha1
-returns c = omega arith
+returns c = omega (arith, alphaParts1 (c .fits .a .fits) (c .fits .d .fits) (c .fits .c .fits))
 
 pub alpha1-spec : {M : Type 1} → statement M
 alpha1-spec =
