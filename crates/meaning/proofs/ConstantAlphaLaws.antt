@@ -14,21 +14,21 @@ use Rattle.composite.specs.declared.Rule.the-variants.{Blend0, Blend1, Raster, 
 use Rattle.meaning.specs.Meaning.{ruleOf, meaningOf}
 
 -- a rule's constant alpha, where it has one
-abbrev pub AlphaInByte : Rule → Type 0
-AlphaInByte (Blend0 c) = c ≤ 255
-AlphaInByte (Blend1 c) = c ≤ 255
-AlphaInByte (Raster op brush) = Unit {0}
-AlphaInByte (Masked foreground background brush) = Unit {0}
+abbrev pub ConstantInByte : Rule → Type 0
+ConstantInByte (Blend0 c) = c ≤ 255
+ConstantInByte (Blend1 c) = c ≤ 255
+ConstantInByte (Raster op brush) = Unit {0}
+ConstantInByte (Masked foreground background brush) = Unit {0}
 
-of-blend : (t : Bool) (c brush : ℕ) → c ≤ 255 → AlphaInByte (ruleOf (cond t (act.Blend1 c) (act.Blend0 c)) brush)
+of-blend : (t : Bool) (c brush : ℕ) → c ≤ 255 → ConstantInByte (ruleOf (cond t (act.Blend1 c) (act.Blend0 c)) brush)
 of-blend true c brush h = h
 of-blend false c brush h = h
 
-of-field : (form : Form) (field brush : ℕ) → AlphaInByte (ruleOf (actionOf form field) brush)
+of-field : (form : Form) (field brush : ℕ) → ConstantInByte (ruleOf (actionOf form field) brush)
 of-field Blend field brush = of-blend (eqb (alphaFormat field) 1) (constantAlpha field) brush (omega arith)
 of-field Rop4 field brush = tt
 of-field Rop field brush = tt
 
-pub alpha-in-byte : (s : List ℕ) (brush : ℕ) → AlphaInByte (meaningOf s .rule brush)
+pub constant-in-byte : (s : List ℕ) (brush : ℕ) → ConstantInByte (meaningOf s .rule brush)
 unfolding meaningOf recordOf
-alpha-in-byte s brush = of-field (rowIn s .form) (fieldsIn s .operation) brush
+constant-in-byte s brush = of-field (rowIn s .form) (fieldsIn s .operation) brush

@@ -18,7 +18,7 @@ use Rattle.composite.specs.declared.Rule.{Rule}
 use Rattle.composite.specs.declared.Rule.the-variants.{Blend0, Blend1, Raster, Masked}
 use Rattle.composite.specs.Paints.{paintedBy}
 use Rattle.meaning.specs.Meaning.{Meaning, meaningOf, targetIn, workOf}
-use Rattle.meaning.proofs.ConstantAlphaLaws.{AlphaInByte, alpha-in-byte}
+use Rattle.meaning.proofs.ConstantAlphaLaws.{ConstantInByte, constant-in-byte}
 use Rattle.player.specs.Calls.{Play, work}
 use Rattle.player.specs.Pixels.{sourceAt, bitAt}
 
@@ -47,7 +47,7 @@ either-word true a b ha hb = ha
 either-word false a b ha hb = hb
 
 -- a blended pixel fits since its constant alpha is a byte
-painted-word : (rule : Rule) (source bit old : ℕ) → AlphaInByte rule → Word old → Word (paintedBy rule source bit old)
+painted-word : (rule : Rule) (source bit old : ℕ) → ConstantInByte rule → Word old → Word (paintedBy rule source bit old)
 painted-word (Blend0 c) source bit old a h = cut-where-needed .pixel0 source old c a .fits
 painted-word (Blend1 c) source bit old a h = cut-where-needed .pixel1 source old c a .fits
 painted-word (Raster op brush) source bit old a h = raster-word op brush source old h
@@ -59,4 +59,4 @@ unfolding work workOf
 paints-pixels w h p old x y =
     let k : Meaning = meaningOf (p .bytes) in
     let t : Target = targetIn w h k (p .terms .clip) in
-    painted-word (k .rule (p .terms .brush)) (sourceAt k t x y) (bitAt k t x y) old (alpha-in-byte (p .bytes) (p .terms .brush))
+    painted-word (k .rule (p .terms .brush)) (sourceAt k t x y) (bitAt k t x y) old (constant-in-byte (p .bytes) (p .terms .brush))

@@ -22,9 +22,9 @@ Becomes rule over =
     ≡ over (sourceAt (meaningOf (p .bytes)) (targetIn width height (meaningOf (p .bytes)) (p .terms .clip)) x y) (pixel width (m .surface) x y)
 
 pub record CutInPlays : Type 0 where
-  -- the constant alpha is a byte, as the claim on numbers asks: of every record, accepted or not, and of lists that are not bytes
-  pub alpha0 : (s : List ℕ) (brush c : ℕ) → meaningOf s .rule brush ≡ Blend0 c → c ≤ 255
-  pub alpha1 : (s : List ℕ) (brush c : ℕ) → meaningOf s .rule brush ≡ Blend1 c → c ≤ 255
+  -- a blend's constant alpha is a byte, as the claim on numbers asks: of every record, accepted or not, and of lists that are not bytes
+  pub constant0 : (s : List ℕ) (brush c : ℕ) → meaningOf s .rule brush ≡ Blend0 c → c ≤ 255
+  pub constant1 : (s : List ℕ) (brush c : ℕ) → meaningOf s .rule brush ≡ Blend1 c → c ≤ 255
   -- condition 2, with its cut
   pub format0 : (c : ℕ) → Becomes (Blend0 c) (λ source old. cutOver0 source old c)
   pub format1 : (c : ℕ) → Becomes (Blend1 c) (λ source old. cutOver1 source old c)
