@@ -1,6 +1,5 @@
 // The script, read front to back through a buffer.
-ghost use mathlib.Core.Path.{_≡_};
-ghost use Prim.Native.Nat.{ℕ, _+_, _≤_, _<_};
+ghost use Prim.Native.Nat.{_+_, _≤_, _<_};
 ghost use lib.ListN.{length, getD};
 ghost use Rattle.words.specs.Filled.{Filled};
 ghost use Rattle.replay.specs.Ready.{Held, Unread};
