@@ -3,7 +3,7 @@ use mathlib.Core.Path.{_≡_, refl}
 use Prim.Native.Nat.{ℕ, _/_, _%_, _^_, _≤_, suc-le-suc}
 use native.Mathlib.Omega.{arith}
 use Rattle.pixel.specs.Round.{roundDiv, cut}
-use Rattle.pixel.specs.Blend.{blend0, uncut1, blend1, blendAlpha1, pixelOf, alpha, red, green, blue, over0, over1}
+use Rattle.pixel.specs.Blend.{blend0, uncut1, blend1, blendAlpha1, alpha, red, green, blue, channelwise, over0, over1}
 use Rattle.pixel.specs.Cut.{Channels, cutOver0, cutOver1, CutWhereNeeded}
 use Rattle.pixel.proofs.BlendLaws.{parts0, alphaParts1}
 
@@ -23,34 +23,40 @@ same : (n : ℕ) → n ≤ 255 → cut n ≡ n
 unfolding cut
 same n h = omega arith
 
--- bytes put together
-joined : (a r g b : ℕ) → a ≤ 255 → r ≤ 255 → g ≤ 255 → b ≤ 255 → Channels (pixelOf a r g b) a r g b
-joined a r g b ha hr hg hb =
-    record { alpha-is = omega arith; red-is = omega arith; green-is = omega arith; blue-is = omega arith; fits = omega arith }
+-- a rule that makes a byte of two bytes
+abbrev InByte : ((x y : ℕ) → ℕ) → Type 0
+InByte f = (x y : ℕ) → x ≤ 255 → y ≤ 255 → f x y ≤ 255
 
 -- a channel is a byte
 upto : (n : ℕ) → n % 256 ≤ 255
 upto n = omega arith
 
+module _ (onAlpha onColour : (x y : ℕ) → ℕ) (s d : ℕ) (ba : InByte onAlpha) (bc : InByte onColour) where
+  joined : Channels (channelwise onAlpha onColour s d) onAlpha onColour s d
+  joined =
+      let a = ba (alpha s) (alpha d) (upto _) (upto _) in
+      let r = bc (red s) (red d) (upto _) (upto _) in
+      let g = bc (green s) (green d) (upto _) (upto _) in
+      let b = bc (blue s) (blue d) (upto _) (upto _) in
+      record { alpha-is = omega arith; red-is = omega arith; green-is = omega arith; blue-is = omega arith; fits = omega arith }
+
 module _ (s d c : ℕ) (h : c ≤ 255) where
-  -- each channel of format 0, and the alpha of format 1, of two pixels
-  channel0 : (m n : ℕ) → blend0 (m % 256) (n % 256) c ≤ 255
-  channel0 m n = format0-upto (m % 256) (n % 256) c (upto m) (upto n) h
+  in-byte0 : InByte (λ x y. blend0 x y c)
+  in-byte0 x y hx hy = format0-upto x y c hx hy h
 
-  alpha1 : blendAlpha1 (alpha s) (alpha d) c ≤ 255
-  alpha1 = alpha1-upto (alpha s) (alpha d) c (upto _) (upto _) h
+  in-byte1 : InByte (λ x y. blendAlpha1 x y c)
+  in-byte1 x y hx hy = alpha1-upto x y c hx hy h
 
-  pixel0 : Channels (over0 s d c) (blend0 (alpha s) (alpha d) c) (blend0 (red s) (red d) c) (blend0 (green s) (green d) c) (blend0 (blue s) (blue d) c)
+  pixel0 : Channels (over0 s d c) (λ x y. blend0 x y c) (λ x y. blend0 x y c) s d
   unfolding over0
-  pixel0 = joined _ _ _ _ (channel0 _ _) (channel0 _ _) (channel0 _ _) (channel0 _ _)
+  pixel0 = joined (λ x y. blend0 x y c) (λ x y. blend0 x y c) s d in-byte0 in-byte0
 
-  pixel1 : Channels (over1 s d c) (blendAlpha1 (alpha s) (alpha d) c) (blend1 (red s) (alpha s) (red d) c) (blend1 (green s) (alpha s) (green d) c)
-      (blend1 (blue s) (alpha s) (blue d) c)
+  pixel1 : Channels (over1 s d c) (λ x y. blendAlpha1 x y c) (λ x y. blend1 x (alpha s) y c) s d
   unfolding over1
-  pixel1 = joined _ _ _ _ alpha1 (colours1-upto _ _ _ _) (colours1-upto _ _ _ _) (colours1-upto _ _ _ _)
+  pixel1 = joined (λ x y. blendAlpha1 x y c) (λ x y. blend1 x (alpha s) y c) s d in-byte1 (λ x y hx hy. colours1-upto x (alpha s) y c)
 
   channel0-cut : (m n : ℕ) → cut (blend0 (m % 256) (n % 256) c) ≡ blend0 (m % 256) (n % 256) c
-  channel0-cut m n = same (blend0 (m % 256) (n % 256) c) (channel0 m n)
+  channel0-cut m n = same (blend0 (m % 256) (n % 256) c) (in-byte0 (m % 256) (n % 256) (upto m) (upto n))
 
   pixel0-cut : over0 s d c ≡ cutOver0 s d c
   unfolding over0
@@ -59,7 +65,7 @@ module _ (s d c : ℕ) (h : c ≤ 255) where
 
   pixel1-cut : over1 s d c ≡ cutOver1 s d c
   unfolding over1 blend1 blendAlpha1
-  pixel1-cut = rw (same (blendAlpha1 (alpha s) (alpha d) c) alpha1)
+  pixel1-cut = rw (same (blendAlpha1 (alpha s) (alpha d) c) (in-byte1 (alpha s) (alpha d) (upto _) (upto _)))
 
 pub cut-where-needed : CutWhereNeeded
 unfolding uncut1 roundDiv

@@ -3,28 +3,22 @@
 use mathlib.Core.Path.{_≡_}
 use Prim.Native.Nat.{ℕ, _^_, _≤_, _<_}
 use Rattle.pixel.specs.Round.{cut}
-use Rattle.pixel.specs.Blend.{blend0, uncut1, blend1, blendAlpha1, pixelOf, alpha, red, green, blue, over0, over1}
+use Rattle.pixel.specs.Blend.{blend0, uncut1, blend1, blendAlpha1, alpha, red, green, blue, channelwise, over0, over1}
 
--- a pixel's four channels are these numbers: nothing of one spills into its neighbour, or past 32 bits
-pub record Channels (pixel a r g b : ℕ) : Type 0 where
-  pub alpha-is : alpha pixel ≡ a
-  pub red-is : red pixel ≡ r
-  pub green-is : green pixel ≡ g
-  pub blue-is : blue pixel ≡ b
+-- a pixel's four channels are what the two rules give: nothing of one spills into its neighbour, or past 32 bits
+pub record Channels (pixel : ℕ) (onAlpha onColour : (x y : ℕ) → ℕ) (s d : ℕ) : Type 0 where
+  pub alpha-is : alpha pixel ≡ onAlpha (alpha s) (alpha d)
+  pub red-is : red pixel ≡ onColour (red s) (red d)
+  pub green-is : green pixel ≡ onColour (green s) (green d)
+  pub blue-is : blue pixel ≡ onColour (blue s) (blue d)
   pub fits : pixel < 2 ^ 32
 
--- document 01's "rounded to nearest, then cut to 255 where above" of all four channels
-abbrev pub cutPixel : (a r g b : ℕ) → ℕ
-cutPixel a r g b = pixelOf (cut a) (cut r) (cut g) (cut b)
-
+-- document 01 to the letter: every channel is "rounded to nearest, then cut to 255 where above"
 abbrev pub cutOver0 : (s d c : ℕ) → ℕ
-cutOver0 s d c =
-    cutPixel (blend0 (alpha s) (alpha d) c) (blend0 (red s) (red d) c) (blend0 (green s) (green d) c) (blend0 (blue s) (blue d) c)
+cutOver0 s d c = channelwise (λ x y. cut (blend0 x y c)) (λ x y. cut (blend0 x y c)) s d
 
 abbrev pub cutOver1 : (s d c : ℕ) → ℕ
-cutOver1 s d c =
-    cutPixel (uncut1 (alpha s) (alpha s) (alpha d) c) (uncut1 (red s) (alpha s) (red d) c) (uncut1 (green s) (alpha s) (green d) c)
-    (uncut1 (blue s) (alpha s) (blue d) c)
+cutOver1 s d c = channelwise (λ x y. cut (uncut1 x x y c)) (λ x y. cut (uncut1 x (alpha s) y c)) s d
 
 pub record CutWhereNeeded : Type 0 where
   -- "no channel of format 0 passes 255, nor the alpha of format 1"
@@ -40,8 +34,5 @@ pub record CutWhereNeeded : Type 0 where
   pub pixel0-cut : (s d c : ℕ) → c ≤ 255 → over0 s d c ≡ cutOver0 s d c
   pub pixel1-cut : (s d c : ℕ) → c ≤ 255 → over1 s d c ≡ cutOver1 s d c
   -- and each channel stays its own
-  pub pixel0 : (s d c : ℕ) → c ≤ 255
-      → Channels (over0 s d c) (blend0 (alpha s) (alpha d) c) (blend0 (red s) (red d) c) (blend0 (green s) (green d) c) (blend0 (blue s) (blue d) c)
-  pub pixel1 : (s d c : ℕ) → c ≤ 255
-      → Channels (over1 s d c) (blendAlpha1 (alpha s) (alpha d) c) (blend1 (red s) (alpha s) (red d) c) (blend1 (green s) (alpha s) (green d) c)
-      (blend1 (blue s) (alpha s) (blue d) c)
+  pub pixel0 : (s d c : ℕ) → c ≤ 255 → Channels (over0 s d c) (λ x y. blend0 x y c) (λ x y. blend0 x y c) s d
+  pub pixel1 : (s d c : ℕ) → c ≤ 255 → Channels (over1 s d c) (λ x y. blendAlpha1 x y c) (λ x y. blend1 x (alpha s) y c) s d
