@@ -519,6 +519,8 @@ NUMBERS = [
     ("raster 0x66: source 0xFF00FF, target 0x0F0F0F", "0x00f00ff0"),
     ("raster 0x66: source 0x12FF00FF, target pixel 0x340F0F0F", "0x34f00ff0"),
     ("raster 0xF0: brush 0x112233, target pixel 0xFF0000FF", "0xff112233"),
+    # at bit k of 0xF0, 0xCC and 0xAA stand the digits of k, so what comes out is the operation byte
+    *[(f"truth table of 0x{op:02X}", f"0x00{op:02x}{op:02x}{op:02x}") for op in (1, 2, 4, 8, 16, 32, 64, 128, 0xB8)],
     ("raster 0xCC needs a source", "yes"),
     ("raster 0x66 needs a source", "yes"),
     ("raster 0xF0 needs a source", "no"),
@@ -595,6 +597,11 @@ NUMBERS = [
     ("0x4E, MAKEROP4(0x00CC0020, 0x00AA0029)", "0xff0a0b0c"),
     ("0x4E, MAKEROP4(0x00CC0020, 0x00AA0029)", "0x800000ff"),
     ("0x4E, MAKEROP4(0x00CC0020, 0x00AA0029)", "0x00445566"),
+    # brush 0x112233; 0x0A0B0C on 0: 0x112233 without the source's bits; 0x010203 xor 0x0000FF; 0x445566 on all ones: with the brush's bits
+    ("0x4E, 0xB8 over 0x66", "0"),
+    ("0x4E, 0xB8 over 0x66", "0xff112033"),
+    ("0x4E, 0xB8 over 0x66", "0x800102fc"),
+    ("0x4E, 0xB8 over 0x66", "0x00557777"),
     ("0x51, 2 to 3", "0"),
     ("0x51, 2 to 3", "0xff0a0b0c"),
     ("0x51, 2 to 3", "0x800a0b0c"),

@@ -4,16 +4,7 @@ use Prim.Native.Nat.{ℕ, _+_, _*_, _<_}
 use Rattle.pixel.specs.Bits.{bit}
 use Rattle.pixel.specs.Raster.{rasterIndex, raster}
 use Rattle.pixel.specs.CopyOrKeep.{CopyOrKeep}
-use Rattle.pixel.proofs.BitLaws.{bit-lt, on-bit, low-bits, from-ext}
-
--- by cases on three bits
-on-bits : (P : ℕ → ℕ → ℕ → Type 0) → P 0 0 0 → P 0 0 1 → P 0 1 0 → P 0 1 1 → P 1 0 0 → P 1 0 1 → P 1 1 0 → P 1 1 1
-    → (b s t : ℕ) → b < 2 → s < 2 → t < 2 → P b s t
-on-bits P p0 p1 p2 p3 p4 p5 p6 p7 b s t hb hs ht =
-    on-bit (λ (b : ℕ). P b s t)
-    (on-bit (λ (s : ℕ). P 0 s t) (on-bit (λ (t : ℕ). P 0 0 t) p0 p1 t ht) (on-bit (λ (t : ℕ). P 0 1 t) p2 p3 t ht) s hs)
-    (on-bit (λ (s : ℕ). P 1 s t) (on-bit (λ (t : ℕ). P 1 0 t) p4 p5 t ht) (on-bit (λ (t : ℕ). P 1 1 t) p6 p7 t ht) s hs)
-    b hb
+use Rattle.pixel.proofs.BitLaws.{bit-lt, on-bits, low-bits, from-ext}
 
 copied : (b s t : ℕ) → b < 2 → s < 2 → t < 2 → bit 0xCC (4 * b + 2 * s + t) ≡ s
 unfolding bit

@@ -11,6 +11,7 @@ fn main() {
     numbers::uncut();
     numbers::whole_pixels();
     numbers::raster();
+    numbers::terms();
     numbers::needs_source();
     numbers::widths();
     numbers::row_lengths();
@@ -23,6 +24,7 @@ fn main() {
     plays::blends();
     plays::masked();
     plays::copied();
+    plays::picked();
     plays::stretches();
     records::all();
 }

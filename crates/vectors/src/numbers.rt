@@ -97,6 +97,28 @@ pub fn raster() {
     );
 }
 
+// Brush 0xF0, source 0xCC and target 0xAA have the three digits of k at bit k: what they give is the operation itself, in each channel.
+fn read_off(asked: &[u8], op: u8, should: u32) {
+    line::pixel(
+        asked,
+        pixel::raster::raster(op, 0xF0F0F0, 0xCCCCCC, 0xAAAAAA),
+        should,
+    );
+}
+
+// Each and-term by itself, then an operation of four.
+pub fn terms() {
+    read_off(b"truth table of 0x01", 0x01, 0x010101);
+    read_off(b"truth table of 0x02", 0x02, 0x020202);
+    read_off(b"truth table of 0x04", 0x04, 0x040404);
+    read_off(b"truth table of 0x08", 0x08, 0x080808);
+    read_off(b"truth table of 0x10", 0x10, 0x101010);
+    read_off(b"truth table of 0x20", 0x20, 0x202020);
+    read_off(b"truth table of 0x40", 0x40, 0x404040);
+    read_off(b"truth table of 0x80", 0x80, 0x808080);
+    read_off(b"truth table of 0xB8", 0xB8, 0xB8B8B8);
+}
+
 pub fn needs_source() {
     line::truth(
         b"raster 0xCC needs a source",

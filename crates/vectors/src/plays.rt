@@ -223,8 +223,8 @@ pub fn masked() {
     );
 }
 
-// Document 001's copy-or-keep, with a source of three 24-bit pixels, 0x0A0B0C, 0x010203 and 0x445566: copied where the mask's bit is 1.
-fn copied_by(label: &[u8], field: u32) {
+// With a source of three 24-bit pixels, 0x0A0B0C, 0x010203 and 0x445566.
+fn with_source(label: &[u8], field: u32, first: u32, second: u32, third: u32) {
     let mut r = masked_record(field);
     parts(&mut r, 84, 180, 40, 12);
     header(&mut r, 180, 3, 24);
@@ -232,7 +232,12 @@ fn copied_by(label: &[u8], field: u32) {
     words::store_u32(&mut r, 224, 0x55660102);
     words::store_u32(&mut r, 228, 0x00000044);
     let mut surface = [0xFF000000u32, 0x800000FFu32, 0x00FFFFFFu32];
-    shown(label, &r, &mut surface, 0xFF0A0B0C, 0x800000FF, 0x00445566);
+    shown(label, &r, &mut surface, first, second, third);
+}
+
+// Document 001's copy-or-keep: copied where the mask's bit is 1.
+fn copied_by(label: &[u8], field: u32) {
+    with_source(label, field, 0xFF0A0B0C, 0x800000FF, 0x00445566);
 }
 
 // wingdi.h: #define MAKEROP4(fore,back) (DWORD)((((back) << 8) & 0xFF000000) | (fore))
@@ -248,6 +253,17 @@ pub fn copied() {
     let field = makerop4(0x00CC0020, 0x00AA0029);
     line::pixel(b"MAKEROP4(0x00CC0020, 0x00AA0029)", field, 0xAACC0020);
     copied_by(b"0x4E, MAKEROP4(0x00CC0020, 0x00AA0029)", field);
+}
+
+// 0xB8 looks at all three: the target where the source's bit is 1, the brush where it is 0. At the mask's 0 the target is inverted by the source.
+pub fn picked() {
+    with_source(
+        b"0x4E, 0xB8 over 0x66",
+        0x66B80000,
+        0xFF112033,
+        0x800102FC,
+        0x00557777,
+    );
 }
 
 // 0x51 with a source of two 24-bit pixels, 0x0A0B0C and 0x010203, on three columns: n 2, m 3 reads 0, 0, 1; mirrored 1, 1, 0.
