@@ -6,10 +6,10 @@ use Prim.Native.Nat.{ℕ, zero, suc, _+_, _-_, _*_, _^_, _≤_, _<_, min, max}
 use native.Mathlib.Omega.{arith}
 use native.Mathlib.Nat.{eq-zero-or-pos, pow-suc}
 use lib.Dec.{lit<}
-use lib.Bits.{bitAnd, bitOr, bitXor, differ, and-le-l, or-lt as or-below}
+use lib.Bits.{bitAnd, bitXor, differ, and-le-l, or-lt as or-below}
 use Rattle.pixel.specs.Bits.{bit}
 use Rattle.pixel.specs.Raster.{rasterIndex, raster}
-use Rattle.pixel.specs.AndTerms.{spreadOf, sideOf, andOf, termOf, orOf, TermsAt, AndTerms}
+use Rattle.pixel.specs.AndTerms.{spreadOf, sideOf, andOf, termOf, orOf, AndTerms}
 use Rattle.pixel.proofs.BitLaws.{bit-lt, on-bit, bit-and, bit-or, bit-xor, bit-zero, bit-ones, by-bits}
 
 -- ---- a side at a bit
@@ -44,6 +44,10 @@ digits : (i : ℕ) → i < 8 → i ≡ 4 * bit i 2 + 2 * bit i 1 + bit i 0
 unfolding bit
 digits i h = omega arith
 
+index-lt : (b s t k : ℕ) → rasterIndex b s t k < 8
+unfolding rasterIndex
+index-lt b s t k = omega (arith, bit-lt b k, bit-lt s k, bit-lt t k)
+
 -- the operation's bit n, where three digits and three bits make the same number
 module _ (n p q r b s t x y z : ℕ) (hn : n < 2) (hx : Same p b x) (hy : Same q s y) (hz : Same r t z) where
   one : 4 * p + 2 * q + r ≡ 4 * b + 2 * s + t → p < 2 → q < 2 → r < 2 → b < 2 → s < 2 → t < 2 → min (min (min n x) y) z ≡ n
@@ -68,18 +72,14 @@ module _ (op b s t k : ℕ) (h : k < 24) where
       ∙ ap (λ (n : ℕ). min (min n (bit y k)) (bit z k)) (bit-and p x k)
       ∙ ap (λ (n : ℕ). min (min (min n (bit x k)) (bit y k)) (bit z k)) (spread-bit op i k h)
 
-  pub index-lt : rasterIndex b s t k < 8
-  unfolding rasterIndex
-  index-lt = omega (arith, bit-lt b k, bit-lt s k, bit-lt t k)
-
-  pub carries : let i = rasterIndex b s t k in bit (termOf op i b s t) k ≡ bit op i
+  carries : let i = rasterIndex b s t k in bit (termOf op i b s t) k ≡ bit op i
   unfolding rasterIndex
   carries =
       let i = rasterIndex b s t k in
-      term-bit i ∙ one (bit op i) _ _ _ _ _ _ _ _ _ (bit-lt op i) (side i 2 b) (side i 1 s) (side i 0 t) (sym (digits i index-lt))
+      term-bit i ∙ one (bit op i) _ _ _ _ _ _ _ _ _ (bit-lt op i) (side i 2 b) (side i 1 s) (side i 0 t) (sym (digits i (index-lt b s t k)))
       (bit-lt i 2) (bit-lt i 1) (bit-lt i 0) (bit-lt b k) (bit-lt s k) (bit-lt t k)
 
-  pub others : (i : ℕ) → i < 8 → i ≢ rasterIndex b s t k → bit (termOf op i b s t) k ≡ 0
+  others : (i : ℕ) → i < 8 → i ≢ rasterIndex b s t k → bit (termOf op i b s t) k ≡ 0
   unfolding rasterIndex
   others i hi ne = term-bit i ∙ none (bit op i) _ _ _ _ _ _ _ _ _ (bit-lt op i) (side i 2 b) (side i 1 s) (side i 0 t) (λ e. ne (digits i hi ∙ e))
 
@@ -120,24 +120,24 @@ or-lt (suc n) term h = or-below 24 (orOf n term) _ (or-lt n term h) (or-lt n _ (
 
 -- ---- the claim
 
-module _ (op b s t : ℕ) where
-  term-lt : (i : ℕ) → termOf op i b s t < 2 ^ 24
-  unfolding termOf andOf spreadOf
-  term-lt i =
-      let p = spreadOf op i in
-      let x = sideOf (bit i 2) b in
-      let y = sideOf (bit i 1) s in
-      omega (arith, bit-lt op i, and-le-l p x, and-le-l (bitAnd p x) y, and-le-l (bitAnd (bitAnd p x) y) (sideOf (bit i 0) t))
+term-lt : (op i b s t : ℕ) → termOf op i b s t < 2 ^ 24
+unfolding termOf andOf spreadOf
+term-lt op i b s t =
+    let p = spreadOf op i in
+    let x = sideOf (bit i 2) b in
+    let y = sideOf (bit i 1) s in
+    omega (arith, bit-lt op i, and-le-l p x, and-le-l (bitAnd p x) y, and-le-l (bitAnd (bitAnd p x) y) (sideOf (bit i 0) t))
 
-  pub or-of-terms : raster op b s t ≡ orOf 3 (λ i. termOf op i b s t)
-  unfolding raster
-  or-of-terms =
-      let term : ℕ → ℕ = λ i. termOf op i b s t in
-      sym (by-bits 24 (orOf 3 term) _ (or-lt 3 term term-lt)
-      (λ k h. or-one k 3 term (rasterIndex b s t k) (index-lt op b s t k h) (others op b s t k h) ∙ carries op b s t k h))
+pub or-of-terms : (op b s t : ℕ) → raster op b s t ≡ orOf 3 (λ i. termOf op i b s t)
+unfolding raster
+or-of-terms op b s t =
+    let term : ℕ → ℕ = λ i. termOf op i b s t in
+    sym (by-bits 24 (orOf 3 term) _ (or-lt 3 term (λ i. term-lt op i b s t))
+    (λ k h. or-one k 3 term (rasterIndex b s t k) (index-lt b s t k) (others op b s t k h) ∙ carries op b s t k h))
 
 pub and-terms : AndTerms
 and-terms = record {
   colour = or-of-terms;
-  at-bit = λ op b s t k h. record { numbered = index-lt op b s t k h; carries = carries op b s t k h; others = others op b s t k h };
+  colour-bits = term-lt;
+  at-bit = λ op b s t k h. record { numbered = index-lt b s t k; carries = carries op b s t k h; others = others op b s t k h };
 }

@@ -42,7 +42,9 @@ pub record TermsAt (op brush source target k : ℕ) : Type 0 where
   pub others : (i : ℕ) → i < 8 → i ≢ rasterIndex brush source target k → bit (termOf op i brush source target) k ≡ 0
 
 pub record AndTerms : Type 0 where
-  -- "work out each colour from eight and-terms over all 24 bits"
+  -- "work out each colour from eight and-terms"
   pub colour : (op brush source target : ℕ) → raster op brush source target ≡ orOf 3 (λ i. termOf op i brush source target)
+  -- "over all 24 bits": a term has no others
+  pub colour-bits : (op i brush source target : ℕ) → termOf op i brush source target < 2 ^ 24
   -- "at each colour bit"
   pub at-bit : (op brush source target k : ℕ) → k < 24 → TermsAt op brush source target k
