@@ -4,7 +4,7 @@ use mathlib.Core.List.{List, []}
 use Prim.Native.Nat.{ℕ, _+_, _*_, _≤_}
 use native.Mathlib.Nat.{mul-le-mul-left, mul-comm}
 use native.Mathlib.Omega.{arith}
-use lib.ListN.{length, take}
+use lib.ListN.{length, take, replicate, length-replicate, getD-replicate}
 use lib.Seq.{sets, getD-take, length-take-le}
 use Rattle.words.proofs.FillLaws.{filled-front}
 use Rattle.judge.specs.declared.Record.{Record}
@@ -16,7 +16,7 @@ use Rattle.region.proofs.TargetLaws.{OnBoth, inside, block-none}
 use Rattle.journal.specs.Drawing.{Paint, drawn}
 use Rattle.journal.specs.Records.{stride, bytesOf, saved}
 use Rattle.draw.specs.declared.Plan.{Plan}
-use Rattle.draw.specs.Ready.{Ready, SourceColumns, MaskColumns, Mapped}
+use Rattle.draw.specs.Ready.{Ready, SourceColumns, MaskColumns, Mapped, Buffers}
 
 -- a target without columns draws nothing
 module _ (w : ℕ) (f : Paint) (t : Target) (e : t .columns .count ≡ 0) (s : List ℕ) where
@@ -67,3 +67,17 @@ module _ (p : Plan) (d₀ e₀ d e : List ℕ) (a : p .target .columns .count �
     source = λ there k l. getD-take count d k 0 l ∙ filled-front (p .record .source .present) count f there k l;
     mask = λ there k l. getD-take count e k 0 l ∙ filled-front (p .record .mask .present) count g there k l;
   }
+
+-- new buffers hold nothing but 0
+pub fresh : (p : Plan) (n : ℕ) → p .target .columns .count ≤ n → Buffers p (replicate n 0) (replicate n 0) (replicate n 0) (replicate n 0)
+fresh p n room = record {
+  for-columns = long;
+  for-mask-columns = long;
+  for-colours = long;
+  for-bits = long;
+  blank-colours = λ absent k l. getD-replicate {A = ℕ} n k 0 0 (omega arith);
+  blank-bits = λ absent k l. getD-replicate {A = ℕ} n k 0 0 (omega arith);
+}
+  where
+    long : p .target .columns .count ≤ length (replicate {A = ℕ} n 0)
+    long = omega (arith, length-replicate {A = ℕ} n 0)

@@ -13,6 +13,7 @@ use Rattle.region.specs.Target.{pointsIn}
 use Rattle.journal.specs.Records.{stride, DrawnAndSaved}
 use Rattle.meaning.specs.Sampling.{sourceColumn}
 use Rattle.meaning.specs.Meaning.{meaningIn, paintOn}
+use Rattle.meaning.specs.Rows.{Blank}
 use Rattle.draw.specs.declared.Plan.{Plan}
 
 -- an accepted record of so many bytes, whose clipped target has columns and lies on the surface and in the whole target, and a journal
@@ -46,12 +47,15 @@ abbrev pub MaskColumns : Record → (index count : ℕ) (before after : List ℕ
 MaskColumns r index count before after =
     Filled (λ k. maskPixel (signed32 (r .mask .x)) (index + k) (r .mask .header .width)) before (cond (r .mask .present) count 0) after
 
--- buffers for the columns of source and mask and for the pixels and bits of a row, each as long as the row at least
+-- buffers for the columns of source and mask and for the pixels and bits of a row, each as long as the row at least; blank where there is no
+-- such picture
 pub record Buffers (p : Plan) (sourceColumns maskColumns colours bits : List ℕ) : Type 0 where
   pub for-columns : p .target .columns .count ≤ length sourceColumns
   pub for-mask-columns : p .target .columns .count ≤ length maskColumns
   pub for-colours : p .target .columns .count ≤ length colours
   pub for-bits : p .target .columns .count ≤ length bits
+  pub blank-colours : Blank (p .record .source .present) (p .target .columns .count) colours
+  pub blank-bits : Blank (p .record .mask .present) (p .target .columns .count) bits
 
 -- the target's pixels are drawn on the surface as record s means them, and their old ones stand in the journal from the plan's record on
 abbrev pub Drawn : (s : List ℕ) → Plan → (surface journal surfaceAfter journalAfter : List ℕ) → Type 0

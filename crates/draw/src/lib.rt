@@ -7,6 +7,7 @@ ghost use Rattle.words.specs.Bytes.{magnitude32};
 ghost use Rattle.judge.specs.Good.{Good};
 ghost use Rattle.sample.specs.At.{Colours};
 ghost use Rattle.picture.specs.Shown.{picturePalette};
+ghost use Rattle.meaning.specs.Rows.{Blank};
 ghost use Rattle.draw.specs.Ready.{Ready, SourceColumns, MaskColumns, Mapped, Buffers, Drawn};
 use composite::Start;
 use judge::Record;
@@ -63,7 +64,9 @@ fn rows(
     requires { ⌜ Ready (length (now s)) p (now surface) (now journal) ⌝ }
     requires { ⌜ (now palette ≡ picturePalette (now s) (p .record .source)) × Colours (now palette) ⌝ }
     requires { ⌜ Mapped p (now «source_columns») (now «mask_columns») ⌝ }
-    requires { ⌜ (p .target .columns .count ≤ length (now colours)) × (p .target .columns .count ≤ length (now bits)) ⌝ }
+    requires { ⌜ (p .target .columns .count ≤ length (now colours)) × (p .target .columns .count ≤ length (now bits))
+        × Blank (p .record .source .present) (p .target .columns .count) (now colours)
+        × Blank (p .record .mask .present) (p .target .columns .count) (now bits) ⌝ }
     ensures { λ _. ⌜ Drawn (now (s .entry)) p (now (surface .entry)) (now (journal .entry)) (now (surface .exit)) (now (journal .exit)) ⌝ }
 {
     let r = p.record;

@@ -31,7 +31,7 @@ use Rattle.picture.proofs.PictureRowLaws.{length-bits}
 use Rattle.fetch.specs.Fetched.{fetched, InLine, Readable}
 use Rattle.fetch.proofs.ReadableLaws.{readable}
 use Rattle.meaning.specs.Sampling.{isFormat1, sourceColumn, sourceShown, maskShown}
-use Rattle.meaning.specs.Rows.{InPicture}
+use Rattle.meaning.specs.Rows.{InPicture, Blank}
 
 -- ---- what a present picture is known for
 
@@ -59,16 +59,26 @@ line-reaches s p row line columns f t r e i k l =
     (stored-lt (topDown (p .header)) (rows (p .header)) row r) (omega (arith, f .sound t .rows-ok, length-bits s p f)) line (getD columns k 0) e (i k l)
 
 module _ (s : List ℕ) (r : Record) where
-  -- no source, no mask: all 0
-  pub source-none : (columns : List ℕ) (row : ℕ) (d₀ d : List ℕ) → r .source .present ≡ false → Filled (λ k. 0) d₀ (length columns) d
-      → Filled (λ k. sourceShown s r (getD columns k 0) row) d₀ (length columns) d
+  -- no source, no mask: all 0, before and after
+  pub source-none : (columns : List ℕ) (row : ℕ) (d : List ℕ) → r .source .present ≡ false → Blank (r .source .present) (length columns) d
+      → Filled (λ k. sourceShown s r (getD columns k 0) row) d (length columns) d
   unfolding sourceShown
-  source-none columns row d₀ d f p = filled-by _ _ (length columns) d₀ d (λ k l. sym (cond-false _ _ 0 f)) p
+  source-none columns row d f blank = record { long = refl; front = λ k l. blank f k l ∙ sym (cond-false _ _ 0 f); back = λ k l. refl }
 
-  pub mask-none : (columns : List ℕ) (row : ℕ) (d₀ d : List ℕ) → r .mask .present ≡ false → Filled (λ k. 0) d₀ (length columns) d
-      → Filled (λ k. maskShown s r (getD columns k 0) row) d₀ (length columns) d
+  pub mask-none : (columns : List ℕ) (row : ℕ) (d : List ℕ) → r .mask .present ≡ false → Blank (r .mask .present) (length columns) d
+      → Filled (λ k. maskShown s r (getD columns k 0) row) d (length columns) d
   unfolding maskShown
-  mask-none columns row d₀ d f p = filled-by _ _ (length columns) d₀ d (λ k l. sym (cond-false _ _ 0 f)) p
+  mask-none columns row d f blank = record { long = refl; front = λ k l. blank f k l ∙ sym (cond-false _ _ 0 f); back = λ k l. refl }
+
+  pub source-blank : (columns : List ℕ) (row : ℕ) (d₀ d : List ℕ) → Filled (λ k. sourceShown s r (getD columns k 0) row) d₀ (length columns) d
+      → Blank (r .source .present) (length columns) d
+  unfolding sourceShown
+  source-blank columns row d₀ d p f k l = p .front k l ∙ cond-false _ _ 0 f
+
+  pub mask-blank : (columns : List ℕ) (row : ℕ) (d₀ d : List ℕ) → Filled (λ k. maskShown s r (getD columns k 0) row) d₀ (length columns) d
+      → Blank (r .mask .present) (length columns) d
+  unfolding maskShown
+  mask-blank columns row d₀ d p f k l = p .front k l ∙ cond-false _ _ 0 f
 
   module _ (m : Masks) (palette line columns : List ℕ) (j row : ℕ) (em : m ≡ masksIn (r .source .header) (isFormat1 (r .action)))
       (ep : palette ≡ picturePalette s (r .source)) (f : r .source .present ≡ true)

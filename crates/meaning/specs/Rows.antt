@@ -1,6 +1,6 @@
 -- What a row of source pixels, and a row of mask bits, is read with. Definitions only.
 use mathlib.Core.Path.{_≡_}
-use mathlib.Core.Bool.{true}
+use mathlib.Core.Bool.{Bool, true, false}
 use mathlib.Core.List.{List}
 use Prim.Native.Nat.{ℕ, _<_}
 use lib.ListN.{length, getD}
@@ -29,6 +29,10 @@ SourceFilled s r j columns before after =
 abbrev pub MaskFilled : (s : List ℕ) → Record → (j : ℕ) (columns before after : List ℕ) → Type 0
 MaskFilled s r j columns before after =
     Filled (λ k. maskShown s r (getD columns k 0) (maskPixel (signed32 (r .mask .y)) j (rows (r .mask .header)))) before (length columns) after
+
+-- of an absent picture the front of a row's buffer holds 0, and stays
+abbrev pub Blank : (present : Bool) (count : ℕ) (buffer : List ℕ) → Type 0
+Blank present count buffer = present ≡ false → (k : ℕ) → k < count → getD buffer k 0 ≡ 0
 
 pub record SourceRow (s : List ℕ) (r : Record) (m : Masks) (palette columns : List ℕ) : Type 0 where
   pub good : Good (length s) r

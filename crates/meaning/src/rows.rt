@@ -1,34 +1,12 @@
-// A row of source pixels and a row of mask bits. Of an absent source or mask all are 0: the rule does not look at them.
+// A row of source pixels and a row of mask bits. Of an absent source or mask all are 0, as the buffer was before: the rule does not look at them.
 ghost use Prim.Native.Nat.{ℕ, _*_, _≤_, _<_};
 ghost use lib.ListN.{length, getD};
 ghost use Rattle.words.specs.Bytes.{magnitude32};
 ghost use Rattle.words.specs.Filled.{Filled};
 ghost use Rattle.sample.specs.Stored.{stored1};
-ghost use Rattle.meaning.specs.Rows.{SourceRow, SourceFilled, MaskRow, MaskFilled};
+ghost use Rattle.meaning.specs.Rows.{Blank, SourceRow, SourceFilled, MaskRow, MaskFilled};
 use dib::Masks;
 use judge::Record;
-
-fn clear(out: &mut [u32], count: usize)
-    requires { ⌜ count ≤ length (now out) ⌝ }
-    ensures { λ _. ⌜ Filled (λ k. 0) (now (out .entry)) count (now (out .exit)) ⌝ }
-{
-    let mut k = 0;
-    while k < count {
-        out[k] = 0;
-        k += 1;
-    }
-}
-
-fn clear_bits(out: &mut [u8], count: usize)
-    requires { ⌜ count ≤ length (now out) ⌝ }
-    ensures { λ _. ⌜ Filled (λ k. 0) (now (out .entry)) count (now (out .exit)) ⌝ }
-{
-    let mut k = 0;
-    while k < count {
-        out[k] = 0;
-        k += 1;
-    }
-}
 
 // The bits of these columns, from the bytes of their row.
 fn bits(line: &[u8], columns: &[u32], out: &mut [u8])
@@ -55,7 +33,7 @@ pub fn of_source(
     out: &mut [u32],
 )
     requires { ⌜ SourceRow (now s) r m (now palette) (now columns) ⌝ }
-    requires { ⌜ (j < magnitude32 (r .cy)) × (length (now columns) ≤ length (now out)) ⌝ }
+    requires { ⌜ (j < magnitude32 (r .cy)) × (length (now columns) ≤ length (now out)) × Blank (r .source .present) (length (now columns)) (now out) ⌝ }
     ensures { λ _. ⌜ SourceFilled (now (s .entry)) r j (now (columns .entry)) (now (out .entry)) (now (out .exit)) ⌝ }
 {
     let p = r.source;
@@ -63,15 +41,13 @@ pub fn of_source(
         let row = crate::columns::source_column(p.y, r.cy_src, r.cy, j);
         let line = picture::row(s, p, row);
         fetch::row(p.header.bits, palette, m, line, columns, out);
-        return;
     }
-    clear(out, columns.len());
 }
 
 // The mask bits of these columns of the mask, in the row that row j of the target reads.
 pub fn of_mask(s: &[u8], r: Record, columns: &[u32], j: u32, out: &mut [u8])
     requires { ⌜ MaskRow (now s) r (now columns) ⌝ }
-    requires { ⌜ length (now columns) ≤ length (now out) ⌝ }
+    requires { ⌜ (length (now columns) ≤ length (now out)) × Blank (r .mask .present) (length (now columns)) (now out) ⌝ }
     ensures { λ _. ⌜ MaskFilled (now (s .entry)) r j (now (columns .entry)) (now (out .entry)) (now (out .exit)) ⌝ }
 {
     let p = r.mask;
@@ -80,7 +56,5 @@ pub fn of_mask(s: &[u8], r: Record, columns: &[u32], j: u32, out: &mut [u8])
         let row = crate::columns::mask_column(p.y, j, rows);
         let line = picture::row(s, p, row);
         bits(line, columns, out);
-        return;
     }
-    clear_bits(out, columns.len());
 }

@@ -49,7 +49,7 @@ unfolding rasterIndex
 index-lt b s t k = omega (arith, bit-lt b k, bit-lt s k, bit-lt t k)
 
 -- the operation's bit n, where three digits and three bits make the same number
-module _ (n p q r b s t x y z : ℕ) (hn : n < 2) (hx : Same p b x) (hy : Same q s y) (hz : Same r t z) where
+module _ {n p q r b s t x y z : ℕ} (hn : n < 2) (hx : Same p b x) (hy : Same q s y) (hz : Same r t z) where
   one : 4 * p + 2 * q + r ≡ 4 * b + 2 * s + t → p < 2 → q < 2 → r < 2 → b < 2 → s < 2 → t < 2 → min (min (min n x) y) z ≡ n
   one e hp hq hr hb hs ht = omega (arith, hx .0 (omega arith), hy .0 (omega arith), hz .0 (omega arith))
 
@@ -76,12 +76,12 @@ module _ (op b s t k : ℕ) (h : k < 24) where
   unfolding rasterIndex
   carries =
       let i = rasterIndex b s t k in
-      term-bit i ∙ one (bit op i) _ _ _ _ _ _ _ _ _ (bit-lt op i) (side i 2 b) (side i 1 s) (side i 0 t) (sym (digits i (index-lt b s t k)))
+      term-bit i ∙ one (bit-lt op i) (side i 2 b) (side i 1 s) (side i 0 t) (sym (digits i (index-lt b s t k)))
       (bit-lt i 2) (bit-lt i 1) (bit-lt i 0) (bit-lt b k) (bit-lt s k) (bit-lt t k)
 
   others : (i : ℕ) → i < 8 → i ≢ rasterIndex b s t k → bit (termOf op i b s t) k ≡ 0
   unfolding rasterIndex
-  others i hi ne = term-bit i ∙ none (bit op i) _ _ _ _ _ _ _ _ _ (bit-lt op i) (side i 2 b) (side i 1 s) (side i 0 t) (λ e. ne (digits i hi ∙ e))
+  others i hi ne = term-bit i ∙ none (bit-lt op i) (side i 2 b) (side i 1 s) (side i 0 t) (λ e. ne (digits i hi ∙ e))
 
 -- ---- the or
 

@@ -46,7 +46,7 @@ rows-requires c κs =
     let buffers = start .pre .1 in
     let columns = mapped (start .args .p) _ _ _ _ (buffers .for-columns) (buffers .for-mask-columns)
     (filled .fill-source-columns .ensures) (masks-filled .fill-mask-columns .ensures) in
-    (start .pre .0, (palette .ensures, (columns, (buffers .for-colours, buffers .for-bits))))
+    (start .pre .0, (palette .ensures, (columns, (buffers .for-colours, buffers .for-bits, buffers .blank-colours, buffers .blank-bits))))
 
 pub mapped-spec : {M : Type 1} → statement M
 mapped-spec =

@@ -7,7 +7,9 @@ use lib.Seq.{length-take-le}
 use denote.Ref.{now}
 use Rattle.sample.specs.Colour.{masksIn}
 use Rattle.journal.proofs.RowLaws.{rows-begin, rows-end}
+use Rattle.meaning.specs.Rows.{Blank}
 use Rattle.meaning.proofs.FitLaws.{extents}
+use Rattle.meaning.proofs.FilledRowLaws.{source-blank, mask-blank}
 use Rattle.draw.proofs.DrawLaws.{PlanRows, columns-inside, mask-columns-inside, rows-more, colours-are, bits-are, row-inside, records-inside}
 use Rattle.draw.proofs.rows.Statement.{statement}
 use Rattle.draw.proofs.rows.Tie as tie
@@ -15,6 +17,7 @@ use Rattle.draw.proofs.rows.Tie as tie
 abbrev Inv-loop : tie.InvT-loop
 Inv-loop surface₀ journal₀ s p palette sourceColumns maskColumns colours₀ bits₀ r masks rule t x count next₀ k₀ surface journal colours bits next k =
     PlanRows s p surface₀ journal₀ surface journal next k × (length colours ≡ length colours₀) × (length bits ≡ length bits₀)
+    × Blank (p .record .source .present) (p .target .columns .count) colours × Blank (p .record .mask .present) (p .target .columns .count) bits
 
 abbrev μ-loop : tie.MeasureT-loop
 μ-loop surface₀ journal₀ s p palette sourceColumns maskColumns colours₀ bits₀ r masks rule t x count next₀ k₀ surface journal colours bits next k =
@@ -26,7 +29,9 @@ cast-x c =
     omega (arith, ready .columns, ready .wide)
 
 loop-holds : tie.Need-loop-holds Inv-loop μ-loop
-loop-holds c = (rows-begin _ _ _ _ _ _ _ _ _, refl, refl)
+loop-holds c =
+    let room = c .before .before .before .before .before .before .before .before .before .before .before .before .before .pre .1 .1 .1 in
+    (rows-begin _ _ _ _ _ _ _ _ _, refl, refl, room .2, room .3)
 
 add-j : tie.Need-add-j Inv-loop μ-loop
 add-j c =
@@ -62,7 +67,11 @@ of-source-requires c κs =
     let masks = at-loop .before .before .before .before .masks .ensures ∙ ap (masksIn (start .args .p .record .source .header)) format in
     let inside = columns-inside (start .args .p) (ready .good) _ _ mapped (ready .column-numbers) in (
       record { good = ready .good; masks = masks; colours = start .pre .1 .0 .1; shows = start .pre .1 .0 .0; inside = inside },
-      (omega (arith, ready .line-numbers (omega arith)), omega (arith, at-loop .loop .inv .1, mapped .as-many, start .pre .1 .1 .1 .0)),
+      (
+        omega (arith, ready .line-numbers (omega arith)),
+        omega (arith, at-loop .loop .inv .1, mapped .as-many, start .pre .1 .1 .1 .0),
+        λ absent k l. at-loop .loop .inv .3 absent k (omega (arith, mapped .as-many)),
+      ),
     )
 
 of-mask-requires : tie.Need-of-mask-requires Inv-loop μ-loop
@@ -72,7 +81,10 @@ of-mask-requires c κs =
     let good = start .pre .0 .good in
     let mapped = start .pre .1 .1 .0 in (
       record { good = good; inside = mask-columns-inside (start .args .p) good _ _ mapped },
-      omega (arith, at-loop .loop .inv .2, mapped .as-many-masks, start .pre .1 .1 .1 .1),
+      (
+        omega (arith, at-loop .loop .inv .2, mapped .as-many-masks, start .pre .1 .1 .1 .1),
+        λ absent k l. at-loop .loop .inv .4 absent k (omega (arith, mapped .as-many-masks)),
+      ),
     )
 
 colours-long : tie.Need-slice-reshare-prefix-row Inv-loop μ-loop
@@ -168,6 +180,8 @@ loop-again c =
           _ _ _ _ _ _ (l .next) (length columns) (l .inv .0) taken long (mapped .as-many) (at-row .row .ensures),
       at-source .of-source .ensures .long ∙ l .inv .1,
       at-mask .of-mask .ensures .long ∙ l .inv .2,
+      λ absent k q. source-blank s (p .record) columns _ _ _ (at-source .of-source .ensures) absent k (omega (arith, mapped .as-many)),
+      λ absent k q. mask-blank s (p .record) maskColumns _ _ _ (at-mask .of-mask .ensures) absent k (omega (arith, mapped .as-many-masks)),
     )
 
 same-length : tie.Need-same-length Inv-loop μ-loop

@@ -34,7 +34,7 @@ bits-requires c κs =
     let fields = fields-ok p fit there in
     let row = mask-row-in (p .y) (start .args .j) (p .header) _ _ fields (at-row .before .magnitude .ensures) (at-row .mask-column .ensures) in
     let reach = line-reaches (now (start .args .s)) p _ _ columns fit there row (c .before .row .ensures) (start .pre .0 .inside there) in
-    (start .pre .1, bits-reach (p .header) (now (c .before .row .result)) columns fields reach)
+    (start .pre .1 .0, bits-reach (p .header) (now (c .before .row .result)) columns fields reach)
 
 returns : tie.Need-returns
 returns c =
@@ -45,12 +45,10 @@ returns c =
 
 returns-2 : tie.Need-returns-2
 returns-2 c =
-    let start = c .before .before .before .before .before .before .before .before .before in
-    mask-none (now (start .args .s)) (start .args .r) (now (start .args .columns)) _ _ _ (c .before .before .before .before .if1 .left)
-    (c .before .before .clear-bits .ensures)
+    let start = c .before .before .before .before .before in
+    mask-none (now (start .args .s)) (start .args .r) (now (start .args .columns)) _ _ (c .if1 .left) (start .pre .1 .1)
 
 pub of-mask-spec : {M : Type 1} → statement M
 of-mask-spec =
     tie.close (tie.spec
-    (λ c κs. search needs) mask-column-requires row-requires bits-requires (λ c. search needs) returns (λ c κs. search needs)
-    (λ c. search needs) returns-2)
+    (λ c κs. search needs) mask-column-requires row-requires bits-requires (λ c. search needs) returns returns-2)

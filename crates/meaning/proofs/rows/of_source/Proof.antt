@@ -42,12 +42,8 @@ returns c =
 
 returns-2 : tie.Need-returns-2
 returns-2 c =
-    let start = c .before .before .before .before .before .before .before .before .before in
-    source-none (now (start .args .s)) (start .args .r) (now (start .args .columns)) _ _ _ (c .before .before .before .before .if1 .left)
-    (c .before .before .clear .ensures)
+    let start = c .before .before .before .before .before in
+    source-none (now (start .args .s)) (start .args .r) (now (start .args .columns)) _ _ (c .if1 .left) (start .pre .1 .2)
 
 pub of-source-spec : {M : Type 1} → statement M
-of-source-spec =
-    tie.close (tie.spec
-    source-column-requires row-requires row-requires-2 (λ c. search needs) returns (λ c κs. search needs) (λ c. search needs)
-    returns-2)
+of-source-spec = tie.close (tie.spec source-column-requires row-requires row-requires-2 (λ c. search needs) returns returns-2)
