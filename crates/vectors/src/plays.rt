@@ -255,7 +255,7 @@ pub fn copied() {
     copied_by(b"0x4E, MAKEROP4(0x00CC0020, 0x00AA0029)", field);
 }
 
-// 0xB8 looks at all three: the target where the source's bit is 1, the brush where it is 0. At the mask's 0 the target is inverted by the source.
+// 0xB8 looks at all three: the target where the source's bit is 1, the brush where it is 0. 0x66 is source xor target.
 pub fn picked() {
     with_source(
         b"0x4E, 0xB8 over 0x66",
