@@ -1,6 +1,6 @@
 -- A row of source pixels and a row of mask bits, as they are fetched. Assumes nothing.
 use mathlib.Core.Path.{_≡_, refl, sym, ap, _∙_, subst}
-use mathlib.Core.Bool.{Bool, true, false}
+use mathlib.Core.Bool.{Bool, true, false, cond}
 use mathlib.Core.List.{List}
 use Prim.Native.Nat.{ℕ, _+_, _*_, _<_}
 use native.Mathlib.Omega.{arith}
@@ -58,28 +58,18 @@ line-reaches s p row line columns f t r e i k l =
     column-in h (bitsPart s p) (rowLength (h .width) (h .bits)) (rows h) (storedRow (topDown h) (rows h) row) refl refl
     (stored-lt (topDown (p .header)) (rows (p .header)) row r) (omega (arith, f .sound t .rows-ok, length-bits s p f)) line (getD columns k 0) e (i k l)
 
+-- ---- a row of an absent picture: all 0, before and after
+
+module _ (present : Bool) (f : ℕ → ℕ) (n : ℕ) where
+  pub blank-filled : (d : List ℕ) → present ≡ false → Blank present n d → Filled (λ k. cond present (f k) 0) d n d
+  blank-filled d absent blank = record { long = refl; front = λ k l. blank absent k l ∙ sym (cond-false present _ 0 absent); back = λ k l. refl }
+
+  pub filled-blank : (d₀ d : List ℕ) → Filled (λ k. cond present (f k) 0) d₀ n d → Blank present n d
+  filled-blank d₀ d filled absent k l = filled .front k l ∙ cond-false present _ 0 absent
+
+-- ---- a row of a present one
+
 module _ (s : List ℕ) (r : Record) where
-  -- no source, no mask: all 0, before and after
-  pub source-none : (columns : List ℕ) (row : ℕ) (d : List ℕ) → r .source .present ≡ false → Blank (r .source .present) (length columns) d
-      → Filled (λ k. sourceShown s r (getD columns k 0) row) d (length columns) d
-  unfolding sourceShown
-  source-none columns row d f blank = record { long = refl; front = λ k l. blank f k l ∙ sym (cond-false _ _ 0 f); back = λ k l. refl }
-
-  pub mask-none : (columns : List ℕ) (row : ℕ) (d : List ℕ) → r .mask .present ≡ false → Blank (r .mask .present) (length columns) d
-      → Filled (λ k. maskShown s r (getD columns k 0) row) d (length columns) d
-  unfolding maskShown
-  mask-none columns row d f blank = record { long = refl; front = λ k l. blank f k l ∙ sym (cond-false _ _ 0 f); back = λ k l. refl }
-
-  pub source-blank : (columns : List ℕ) (row : ℕ) (d₀ d : List ℕ) → Filled (λ k. sourceShown s r (getD columns k 0) row) d₀ (length columns) d
-      → Blank (r .source .present) (length columns) d
-  unfolding sourceShown
-  source-blank columns row d₀ d p f k l = p .front k l ∙ cond-false _ _ 0 f
-
-  pub mask-blank : (columns : List ℕ) (row : ℕ) (d₀ d : List ℕ) → Filled (λ k. maskShown s r (getD columns k 0) row) d₀ (length columns) d
-      → Blank (r .mask .present) (length columns) d
-  unfolding maskShown
-  mask-blank columns row d₀ d p f k l = p .front k l ∙ cond-false _ _ 0 f
-
   module _ (m : Masks) (palette line columns : List ℕ) (j row : ℕ) (em : m ≡ masksIn (r .source .header) (isFormat1 (r .action)))
       (ep : palette ≡ picturePalette s (r .source)) (f : r .source .present ≡ true)
       (er : row ≡ sourceColumn (r .source .y) (r .«cy_src») (r .cy) j) (el : line ≡ pictureRow s (r .source) row) where

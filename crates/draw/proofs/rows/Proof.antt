@@ -7,9 +7,10 @@ use lib.Seq.{length-take-le}
 use denote.Ref.{now}
 use Rattle.sample.specs.Colour.{masksIn}
 use Rattle.journal.proofs.RowLaws.{rows-begin, rows-end}
+use Rattle.meaning.specs.Sampling.{sourceShown, maskShown}
 use Rattle.meaning.specs.Rows.{Blank}
 use Rattle.meaning.proofs.FitLaws.{extents}
-use Rattle.meaning.proofs.FilledRowLaws.{source-blank, mask-blank}
+use Rattle.meaning.proofs.FilledRowLaws.{filled-blank}
 use Rattle.draw.proofs.DrawLaws.{PlanRows, columns-inside, mask-columns-inside, rows-more, colours-are, bits-are, row-inside, records-inside}
 use Rattle.draw.proofs.rows.Statement.{statement}
 use Rattle.draw.proofs.rows.Tie as tie
@@ -155,6 +156,7 @@ add-next c =
     omega (arith, records, start .pre .1 .1 .0 .as-many, start .pre .0 .records)
 
 loop-again : tie.Need-loop-again Inv-loop μ-loop
+unfolding sourceShown maskShown
 loop-again c =
     let at-row = c .before .before .before .before in
     let at-mask = at-row .before .before .before .before .before .before .before in
@@ -180,8 +182,8 @@ loop-again c =
           _ _ _ _ _ _ (l .next) (length columns) (l .inv .0) taken long (mapped .as-many) (at-row .row .ensures),
       at-source .of-source .ensures .long ∙ l .inv .1,
       at-mask .of-mask .ensures .long ∙ l .inv .2,
-      λ absent k q. source-blank s (p .record) columns _ _ _ (at-source .of-source .ensures) absent k (omega (arith, mapped .as-many)),
-      λ absent k q. mask-blank s (p .record) maskColumns _ _ _ (at-mask .of-mask .ensures) absent k (omega (arith, mapped .as-many-masks)),
+      λ absent k q. filled-blank _ _ _ _ _ (at-source .of-source .ensures) absent k (omega (arith, mapped .as-many)),
+      λ absent k q. filled-blank _ _ _ _ _ (at-mask .of-mask .ensures) absent k (omega (arith, mapped .as-many-masks)),
     )
 
 same-length : tie.Need-same-length Inv-loop μ-loop

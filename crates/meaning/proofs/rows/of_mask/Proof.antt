@@ -2,7 +2,8 @@
 use denote.Ref.{now}
 use native.Mathlib.Omega.{arith}
 use Rattle.dib.proofs.HeaderLaws.{sound}
-use Rattle.meaning.proofs.FilledRowLaws.{fields-ok, mask-none, mask-filled, line-reaches, bits-reach, mask-row-in}
+use Rattle.meaning.specs.Sampling.{maskShown}
+use Rattle.meaning.proofs.FilledRowLaws.{fields-ok, blank-filled, mask-filled, line-reaches, bits-reach, mask-row-in}
 use borrow.Author.Needs.{needs}
 use Rattle.meaning.proofs.rows.of_mask.Statement.{statement}
 use Rattle.meaning.proofs.rows.of_mask.Tie as tie
@@ -44,9 +45,8 @@ returns c =
     (at-row .before .before .magnitude .ensures) (at-row .before .mask-column .ensures) (at-row .row .ensures) _ _ (c .before .before .bits .ensures)
 
 returns-2 : tie.Need-returns-2
-returns-2 c =
-    let start = c .before .before .before .before .before in
-    mask-none (now (start .args .s)) (start .args .r) (now (start .args .columns)) _ _ (c .if1 .left) (start .pre .1 .1)
+unfolding maskShown
+returns-2 c = blank-filled _ _ _ _ (c .if1 .left) (c .before .before .before .before .before .pre .1 .1)
 
 pub of-mask-spec : {M : Type 1} → statement M
 of-mask-spec =

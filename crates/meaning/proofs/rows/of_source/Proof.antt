@@ -1,7 +1,8 @@
 -- A row that is read lies in the picture, and its pixels are the definition's; without a source all are 0.
 use denote.Ref.{now}
+use Rattle.meaning.specs.Sampling.{sourceShown}
 use Rattle.meaning.proofs.FitLaws.{source-fits, row-inside}
-use Rattle.meaning.proofs.FilledRowLaws.{source-none, source-filled, line-reaches, as-readable}
+use Rattle.meaning.proofs.FilledRowLaws.{blank-filled, source-filled, line-reaches, as-readable}
 use borrow.Author.Needs.{needs}
 use Rattle.meaning.proofs.rows.of_source.Statement.{statement}
 use Rattle.meaning.proofs.rows.of_source.Tie as tie
@@ -41,9 +42,8 @@ returns c =
     (at-row .row .ensures) _ _ (c .before .before .row2 .ensures)
 
 returns-2 : tie.Need-returns-2
-returns-2 c =
-    let start = c .before .before .before .before .before in
-    source-none (now (start .args .s)) (start .args .r) (now (start .args .columns)) _ _ (c .if1 .left) (start .pre .1 .2)
+unfolding sourceShown
+returns-2 c = blank-filled _ _ _ _ (c .if1 .left) (c .before .before .before .before .before .pre .1 .2)
 
 pub of-source-spec : {M : Type 1} → statement M
 of-source-spec = tie.close (tie.spec source-column-requires row-requires row-requires-2 (λ c. search needs) returns returns-2)
