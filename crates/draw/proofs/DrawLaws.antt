@@ -1,6 +1,6 @@
 -- A row that is fetched and painted is drawn as the record's meaning says, because its pixels and bits are the meaning's. Assumes nothing.
 use mathlib.Core.Path.{_≡_, refl, sym, ap, _∙_, subst}
-use mathlib.Core.Bool.{Bool, true, false}
+use mathlib.Core.Bool.{Bool, true, false, cond}
 use mathlib.Core.List.{List}
 use Prim.Native.Nat.{ℕ, _+_, _-_, _*_, _≤_, _<_}
 use native.Mathlib.Nat.{mul-le-mul-left, mul-suc, mul-comm}
@@ -9,6 +9,8 @@ use lib.ListN.{length, getD, take}
 use lib.Seq.{sets, getD-take}
 use lib.IntN.{pos, _+ℤ_}
 use Rattle.words.specs.Bytes.{magnitude32, signed32}
+use Rattle.words.specs.Filled.{Filled}
+use Rattle.words.proofs.FillLaws.{filled-front, filled-left}
 use Rattle.words.proofs.ChoiceLaws.{cond-false}
 use Rattle.pixel.specs.Position.{maskPixel}
 use Rattle.pixel.proofs.PositionLaws.{remainder-lt}
@@ -31,9 +33,15 @@ use Rattle.meaning.specs.Rows.{InPicture, SourceFilled, MaskFilled}
 use Rattle.meaning.proofs.FitLaws.{source-fits, column-inside}
 use Rattle.meaning.proofs.FilledRowLaws.{fields-ok}
 use Rattle.draw.specs.declared.Plan.{Plan}
-use Rattle.draw.specs.Ready.{Mapped}
+use Rattle.draw.specs.Ready.{Mapped, Blank}
 
 -- ---- a row's source pixels and mask bits are those of the record's meaning
+
+-- what was written, or the 0 that stood there
+filled-or-blank : {f : ℕ → ℕ} {d₀ d : List ℕ} (present : Bool) (n k : ℕ) → Filled f d₀ (cond present n 0) d → k < n
+    → (present ≡ false → getD d₀ k 0 ≡ 0) → (present ≡ false → f k ≡ 0) → getD d k 0 ≡ f k
+filled-or-blank true n k p l blank zero = filled-front true n p refl k l
+filled-or-blank false n k p l blank zero = filled-left false n p refl k ∙ blank refl ∙ sym (zero refl)
 
 module _ (s : List ℕ) (p : Plan) (columns maskColumns : List ℕ) where
   abbrev rec : Record
@@ -42,13 +50,13 @@ module _ (s : List ℕ) (p : Plan) (columns maskColumns : List ℕ) where
   abbrev t : Target
   t = p .target
 
-  source-absent : (a b row : ℕ) → rec .source .present ≡ false → sourceShown s rec a row ≡ sourceShown s rec b row
+  no-source : (column row : ℕ) → rec .source .present ≡ false → sourceShown s rec column row ≡ 0
   unfolding sourceShown
-  source-absent a b row e = cond-false _ _ 0 e ∙ sym (cond-false _ _ 0 e)
+  no-source column row e = cond-false _ _ 0 e
 
-  mask-absent : (a b row : ℕ) → rec .mask .present ≡ false → maskShown s rec a row ≡ maskShown s rec b row
+  no-mask : (column row : ℕ) → rec .mask .present ≡ false → maskShown s rec column row ≡ 0
   unfolding maskShown
-  mask-absent a b row e = cond-false _ _ 0 e ∙ sym (cond-false _ _ 0 e)
+  no-mask column row e = cond-false _ _ 0 e
 
   module _ (m : Mapped p columns maskColumns) (j q : ℕ) (l : q < t .columns .count) where
     -- the rows of source and mask that row j of the target reads
@@ -65,7 +73,7 @@ module _ (s : List ℕ) (p : Plan) (columns maskColumns : List ℕ) where
         go : (b : Bool) → rec .source .present ≡ b
             → sourceShown s rec (getD columns q 0) line
             ≡ sourceShown s rec (sourceColumn (rec .source .x) (rec .«cx_src») (rec .cx) (t .columns .index + q)) line
-        go false e = source-absent _ _ _ e
+        go false e = no-source _ _ e ∙ sym (no-source _ _ e)
         go true e = ap (λ (k : ℕ). sourceShown s rec k line) (m .source e q l)
 
     mask-at : maskShown s rec (getD maskColumns q 0) mask-line ≡ maskBit s rec (t .columns .index + q) j
@@ -75,23 +83,23 @@ module _ (s : List ℕ) (p : Plan) (columns maskColumns : List ℕ) where
         go : (b : Bool) → rec .mask .present ≡ b
             → maskShown s rec (getD maskColumns q 0) mask-line
             ≡ maskShown s rec (maskPixel (signed32 (rec .mask .x)) (t .columns .index + q) (rec .mask .header .width)) mask-line
-        go false e = mask-absent _ _ _ e
+        go false e = no-mask _ _ e ∙ sym (no-mask _ _ e)
         go true e = ap (λ (k : ℕ). maskShown s rec k mask-line) (m .mask e q l)
 
   module _ (m : Mapped p columns maskColumns) (j : ℕ) where
     -- the front of the buffers that a row is fetched to
-    pub colours-are : (d₀ d : List ℕ) → SourceFilled s rec j columns d₀ d
+    pub colours-are : (d₀ d : List ℕ) → Blank (rec .source .present) (t .columns .count) d₀ → SourceFilled s rec j columns d₀ d
         → (q : ℕ) → q < t .columns .count → getD (take (length columns) d) q 0 ≡ sourcePixel s rec (t .columns .index + q) j
-    colours-are d₀ d f q l =
+    colours-are d₀ d blank f q l =
         let i : q < length columns = omega (arith, m .as-many) in
-        getD-take (length columns) d q 0 i ∙ f .front q i ∙ source-at m j q l
+        getD-take (length columns) d q 0 i ∙ filled-or-blank _ _ q f i (λ e. blank e q l) (no-source _ _) ∙ source-at m j q l
 
-    pub bits-are : (d₀ d : List ℕ) → MaskFilled s rec j maskColumns d₀ d
+    pub bits-are : (d₀ d : List ℕ) → Blank (rec .mask .present) (t .columns .count) d₀ → MaskFilled s rec j maskColumns d₀ d
         → (q : ℕ) → q < t .columns .count → getD (take (length columns) d) q 0 ≡ maskBit s rec (t .columns .index + q) j
-    bits-are d₀ d f q l =
+    bits-are d₀ d blank f q l =
         let i : q < length columns = omega (arith, m .as-many) in
         let k : q < length maskColumns = omega (arith, m .as-many-masks) in
-        getD-take (length columns) d q 0 i ∙ f .front q k ∙ mask-at m j q l
+        getD-take (length columns) d q 0 i ∙ filled-or-blank _ _ q f k (λ e. blank e q l) (no-mask _ _) ∙ mask-at m j q l
 
 pub mask-wide : {len : ℕ} (rec : Record) → Good len rec → rec .mask .present ≡ true → 1 ≤ rec .mask .header .width
 mask-wide rec g a = sound (rec .mask .header) (fields-ok (rec .mask) (g .mask) a) .width .0

@@ -1,6 +1,6 @@
 -- What the rows of a play are drawn from, and what is left when they are drawn. Definitions only.
 use mathlib.Core.Path.{_≡_}
-use mathlib.Core.Bool.{true, cond}
+use mathlib.Core.Bool.{Bool, true, false, cond}
 use mathlib.Core.List.{List}
 use Prim.Native.Nat.{ℕ, _+_, _*_, _≤_, _<_}
 use lib.ListN.{length, getD}
@@ -13,7 +13,6 @@ use Rattle.region.specs.Target.{pointsIn}
 use Rattle.journal.specs.Records.{stride, DrawnAndSaved}
 use Rattle.meaning.specs.Sampling.{sourceColumn}
 use Rattle.meaning.specs.Meaning.{meaningIn, paintOn}
-use Rattle.meaning.specs.Rows.{Blank}
 use Rattle.draw.specs.declared.Plan.{Plan}
 
 -- an accepted record of so many bytes, whose clipped target has columns and lies on the surface and in the whole target, and a journal
@@ -47,8 +46,11 @@ abbrev pub MaskColumns : Record → (index count : ℕ) (before after : List ℕ
 MaskColumns r index count before after =
     Filled (λ k. maskPixel (signed32 (r .mask .x)) (index + k) (r .mask .header .width)) before (cond (r .mask .present) count 0) after
 
--- buffers for the columns of source and mask and for the pixels and bits of a row, each as long as the row at least; blank where there is no
--- such picture
+-- a buffer holds 0 as far as the row goes, where there is no such picture
+abbrev pub Blank : (present : Bool) (count : ℕ) (buffer : List ℕ) → Type 0
+Blank present count buffer = present ≡ false → (k : ℕ) → k < count → getD buffer k 0 ≡ 0
+
+-- buffers for the columns of source and mask and for the pixels and bits of a row, each as long as the row at least
 pub record Buffers (p : Plan) (sourceColumns maskColumns colours bits : List ℕ) : Type 0 where
   pub for-columns : p .target .columns .count ≤ length sourceColumns
   pub for-mask-columns : p .target .columns .count ≤ length maskColumns

@@ -1,6 +1,6 @@
 -- A row of source pixels and a row of mask bits, as they are fetched. Assumes nothing.
 use mathlib.Core.Path.{_≡_, refl, sym, ap, _∙_, subst}
-use mathlib.Core.Bool.{Bool, true, false, cond}
+use mathlib.Core.Bool.{Bool, true, false}
 use mathlib.Core.List.{List}
 use Prim.Native.Nat.{ℕ, _+_, _*_, _<_}
 use native.Mathlib.Omega.{arith}
@@ -10,7 +10,7 @@ use lib.ListN.{length, getD}
 use Rattle.words.specs.Bytes.{signed32}
 use Rattle.words.specs.Filled.{Filled}
 use Rattle.words.proofs.FillLaws.{filled-by}
-use Rattle.words.proofs.ChoiceLaws.{cond-true, cond-false}
+use Rattle.words.proofs.ChoiceLaws.{cond-true}
 use Rattle.pixel.specs.Position.{rowLength, remainder, maskPixel}
 use Rattle.pixel.proofs.PositionLaws.{remainder-lt}
 use Rattle.dib.specs.declared.Header.{Header}
@@ -31,7 +31,7 @@ use Rattle.picture.proofs.PictureRowLaws.{length-bits}
 use Rattle.fetch.specs.Fetched.{fetched, InLine, Readable}
 use Rattle.fetch.proofs.ReadableLaws.{readable}
 use Rattle.meaning.specs.Sampling.{isFormat1, sourceColumn, sourceShown, maskShown}
-use Rattle.meaning.specs.Rows.{InPicture, Blank}
+use Rattle.meaning.specs.Rows.{InPicture}
 
 -- ---- what a present picture is known for
 
@@ -57,17 +57,6 @@ line-reaches s p row line columns f t r e i k l =
     let h : Header = p .header in
     column-in h (bitsPart s p) (rowLength (h .width) (h .bits)) (rows h) (storedRow (topDown h) (rows h) row) refl refl
     (stored-lt (topDown (p .header)) (rows (p .header)) row r) (omega (arith, f .sound t .rows-ok, length-bits s p f)) line (getD columns k 0) e (i k l)
-
--- ---- a row of an absent picture: all 0, before and after
-
-module _ (present : Bool) (f : ℕ → ℕ) (n : ℕ) where
-  pub blank-filled : (d : List ℕ) → present ≡ false → Blank present n d → Filled (λ k. cond present (f k) 0) d n d
-  blank-filled d absent blank = record { long = refl; front = λ k l. blank absent k l ∙ sym (cond-false present _ 0 absent); back = λ k l. refl }
-
-  pub filled-blank : (d₀ d : List ℕ) → Filled (λ k. cond present (f k) 0) d₀ n d → Blank present n d
-  filled-blank d₀ d filled absent k l = filled .front k l ∙ cond-false present _ 0 absent
-
--- ---- a row of a present one
 
 module _ (s : List ℕ) (r : Record) where
   module _ (m : Masks) (palette line columns : List ℕ) (j row : ℕ) (em : m ≡ masksIn (r .source .header) (isFormat1 (r .action)))

@@ -1,6 +1,6 @@
 -- What a row of source pixels, and a row of mask bits, is read with. Definitions only.
 use mathlib.Core.Path.{_≡_}
-use mathlib.Core.Bool.{Bool, true, false}
+use mathlib.Core.Bool.{true, cond}
 use mathlib.Core.List.{List}
 use Prim.Native.Nat.{ℕ, _<_}
 use lib.ListN.{length, getD}
@@ -20,19 +20,17 @@ use Rattle.meaning.specs.Sampling.{isFormat1, sourceColumn, sourceShown,
 abbrev pub InPicture : (width : ℕ) (columns : List ℕ) → Type 0
 InPicture width columns = (k : ℕ) → k < length columns → getD columns k 0 < width
 
--- the front of a buffer was filled with the source pixels of these columns, in the row that row j of the target reads
+-- the front of a buffer was filled with the source pixels of these columns, in the row that row j of the target reads, as far as there is a source
 abbrev pub SourceFilled : (s : List ℕ) → Record → (j : ℕ) (columns before after : List ℕ) → Type 0
 SourceFilled s r j columns before after =
-    Filled (λ k. sourceShown s r (getD columns k 0) (sourceColumn (r .source .y) (r .«cy_src») (r .cy) j)) before (length columns) after
+    Filled (λ k. sourceShown s r (getD columns k 0) (sourceColumn (r .source .y) (r .«cy_src») (r .cy) j))
+    before (cond (r .source .present) (length columns) 0) after
 
--- and with the mask bits
+-- and with the mask bits, as far as there is a mask
 abbrev pub MaskFilled : (s : List ℕ) → Record → (j : ℕ) (columns before after : List ℕ) → Type 0
 MaskFilled s r j columns before after =
-    Filled (λ k. maskShown s r (getD columns k 0) (maskPixel (signed32 (r .mask .y)) j (rows (r .mask .header)))) before (length columns) after
-
--- of an absent picture the front of a row's buffer holds 0, and stays
-abbrev pub Blank : (present : Bool) (count : ℕ) (buffer : List ℕ) → Type 0
-Blank present count buffer = present ≡ false → (k : ℕ) → k < count → getD buffer k 0 ≡ 0
+    Filled (λ k. maskShown s r (getD columns k 0) (maskPixel (signed32 (r .mask .y)) j (rows (r .mask .header))))
+    before (cond (r .mask .present) (length columns) 0) after
 
 pub record SourceRow (s : List ℕ) (r : Record) (m : Masks) (palette columns : List ℕ) : Type 0 where
   pub good : Good (length s) r

@@ -1,10 +1,10 @@
-// A row of source pixels and a row of mask bits. Of an absent source or mask all are 0, as the buffer was before: the rule does not look at them.
+// A row of source pixels and a row of mask bits; nothing is written where there is no source or no mask.
 ghost use Prim.Native.Nat.{ℕ, _*_, _≤_, _<_};
 ghost use lib.ListN.{length, getD};
 ghost use Rattle.words.specs.Bytes.{magnitude32};
 ghost use Rattle.words.specs.Filled.{Filled};
 ghost use Rattle.sample.specs.Stored.{stored1};
-ghost use Rattle.meaning.specs.Rows.{Blank, SourceRow, SourceFilled, MaskRow, MaskFilled};
+ghost use Rattle.meaning.specs.Rows.{SourceRow, SourceFilled, MaskRow, MaskFilled};
 use dib::Masks;
 use judge::Record;
 
@@ -33,7 +33,7 @@ pub fn of_source(
     out: &mut [u32],
 )
     requires { ⌜ SourceRow (now s) r m (now palette) (now columns) ⌝ }
-    requires { ⌜ (j < magnitude32 (r .cy)) × (length (now columns) ≤ length (now out)) × Blank (r .source .present) (length (now columns)) (now out) ⌝ }
+    requires { ⌜ (j < magnitude32 (r .cy)) × (length (now columns) ≤ length (now out)) ⌝ }
     ensures { λ _. ⌜ SourceFilled (now (s .entry)) r j (now (columns .entry)) (now (out .entry)) (now (out .exit)) ⌝ }
 {
     let p = r.source;
@@ -47,7 +47,7 @@ pub fn of_source(
 // The mask bits of these columns of the mask, in the row that row j of the target reads.
 pub fn of_mask(s: &[u8], r: Record, columns: &[u32], j: u32, out: &mut [u8])
     requires { ⌜ MaskRow (now s) r (now columns) ⌝ }
-    requires { ⌜ (length (now columns) ≤ length (now out)) × Blank (r .mask .present) (length (now columns)) (now out) ⌝ }
+    requires { ⌜ length (now columns) ≤ length (now out) ⌝ }
     ensures { λ _. ⌜ MaskFilled (now (s .entry)) r j (now (columns .entry)) (now (out .entry)) (now (out .exit)) ⌝ }
 {
     let p = r.mask;

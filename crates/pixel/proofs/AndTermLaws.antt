@@ -85,6 +85,7 @@ module _ (op b s t k : ℕ) (h : k < 24) where
 
 -- ---- the or
 
+-- at a bit where no term is 1, and at one where no other than term i is
 module _ (k : ℕ) where
   or-none : (n : ℕ) (term : ℕ → ℕ) → ((j : ℕ) → j < 2 ^ n → bit (term j) k ≡ 0) → bit (orOf n term) k ≡ 0
   unfolding orOf

@@ -17,7 +17,7 @@ unfoldable pub sideOf : (digit colour : ℕ) → ℕ
 sideOf zero colour = bitXor colour 0xFFFFFF
 sideOf (suc n) colour = colour
 
--- where all four have a 1
+-- the and: a bit is 1 where it is 1 in all four
 unfoldable pub andOf : (spread brush source target : ℕ) → ℕ
 andOf spread brush source target = bitAnd (bitAnd (bitAnd spread brush) source) target
 
@@ -25,7 +25,7 @@ andOf spread brush source target = bitAnd (bitAnd (bitAnd spread brush) source) 
 unfoldable pub termOf : (op i brush source target : ℕ) → ℕ
 termOf op i brush source target = andOf (spreadOf op i) (sideOf (bit i 2) brush) (sideOf (bit i 1) source) (sideOf (bit i 0) target)
 
--- the or of terms 0 to 2^n − 1
+-- the or of terms 0 to 2^n − 1: of the lower half and of the upper
 unfoldable pub orOf : (n : ℕ) → (ℕ → ℕ) → ℕ
 orOf zero term = term 0
 orOf (suc n) term = bitOr (orOf n term) (orOf n (λ i. term (2 ^ n + i)))

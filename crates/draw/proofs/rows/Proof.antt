@@ -5,12 +5,11 @@ use native.Mathlib.Omega.{arith}
 use lib.ListN.{length, take}
 use lib.Seq.{length-take-le}
 use denote.Ref.{now}
+use Rattle.words.proofs.FillLaws.{filled-left}
 use Rattle.sample.specs.Colour.{masksIn}
 use Rattle.journal.proofs.RowLaws.{rows-begin, rows-end}
-use Rattle.meaning.specs.Sampling.{sourceShown, maskShown}
-use Rattle.meaning.specs.Rows.{Blank}
 use Rattle.meaning.proofs.FitLaws.{extents}
-use Rattle.meaning.proofs.FilledRowLaws.{filled-blank}
+use Rattle.draw.specs.Ready.{Blank}
 use Rattle.draw.proofs.DrawLaws.{PlanRows, columns-inside, mask-columns-inside, rows-more, colours-are, bits-are, row-inside, records-inside}
 use Rattle.draw.proofs.rows.Statement.{statement}
 use Rattle.draw.proofs.rows.Tie as tie
@@ -68,11 +67,7 @@ of-source-requires c κs =
     let masks = at-loop .before .before .before .before .masks .ensures ∙ ap (masksIn (start .args .p .record .source .header)) format in
     let inside = columns-inside (start .args .p) (ready .good) _ _ mapped (ready .column-numbers) in (
       record { good = ready .good; masks = masks; colours = start .pre .1 .0 .1; shows = start .pre .1 .0 .0; inside = inside },
-      (
-        omega (arith, ready .line-numbers (omega arith)),
-        omega (arith, at-loop .loop .inv .1, mapped .as-many, start .pre .1 .1 .1 .0),
-        λ absent k l. at-loop .loop .inv .3 absent k (omega (arith, mapped .as-many)),
-      ),
+      (omega (arith, ready .line-numbers (omega arith)), omega (arith, at-loop .loop .inv .1, mapped .as-many, start .pre .1 .1 .1 .0)),
     )
 
 of-mask-requires : tie.Need-of-mask-requires Inv-loop μ-loop
@@ -82,10 +77,7 @@ of-mask-requires c κs =
     let good = start .pre .0 .good in
     let mapped = start .pre .1 .1 .0 in (
       record { good = good; inside = mask-columns-inside (start .args .p) good _ _ mapped },
-      (
-        omega (arith, at-loop .loop .inv .2, mapped .as-many-masks, start .pre .1 .1 .1 .1),
-        λ absent k l. at-loop .loop .inv .4 absent k (omega (arith, mapped .as-many-masks)),
-      ),
+      omega (arith, at-loop .loop .inv .2, mapped .as-many-masks, start .pre .1 .1 .1 .1),
     )
 
 colours-long : tie.Need-slice-reshare-prefix-row Inv-loop μ-loop
@@ -156,7 +148,6 @@ add-next c =
     omega (arith, records, start .pre .1 .1 .0 .as-many, start .pre .0 .records)
 
 loop-again : tie.Need-loop-again Inv-loop μ-loop
-unfolding sourceShown maskShown
 loop-again c =
     let at-row = c .before .before .before .before in
     let at-mask = at-row .before .before .before .before .before .before .before in
@@ -177,13 +168,13 @@ loop-again c =
     let long = length-take-le (length columns) colours
     (omega (arith, l .inv .1, at-source .of-source .ensures .long, mapped .as-many, start .pre .1 .1 .1 .0)) in (
       rows-more s p (l .k) (rule .result) (take (length columns) colours) (take (length columns) bits) (rule .ensures)
-          (colours-are s p columns maskColumns mapped j _ _ (at-source .of-source .ensures))
-          (bits-are s p columns maskColumns mapped j _ _ (at-mask .of-mask .ensures))
+          (colours-are s p columns maskColumns mapped j _ _ (l .inv .3) (at-source .of-source .ensures))
+          (bits-are s p columns maskColumns mapped j _ _ (l .inv .4) (at-mask .of-mask .ensures))
           _ _ _ _ _ _ (l .next) (length columns) (l .inv .0) taken long (mapped .as-many) (at-row .row .ensures),
       at-source .of-source .ensures .long ∙ l .inv .1,
       at-mask .of-mask .ensures .long ∙ l .inv .2,
-      λ absent k q. filled-blank _ _ _ _ _ (at-source .of-source .ensures) absent k (omega (arith, mapped .as-many)),
-      λ absent k q. filled-blank _ _ _ _ _ (at-mask .of-mask .ensures) absent k (omega (arith, mapped .as-many-masks)),
+      λ absent k q. filled-left _ _ (at-source .of-source .ensures) absent k ∙ l .inv .3 absent k q,
+      λ absent k q. filled-left _ _ (at-mask .of-mask .ensures) absent k ∙ l .inv .4 absent k q,
     )
 
 same-length : tie.Need-same-length Inv-loop μ-loop

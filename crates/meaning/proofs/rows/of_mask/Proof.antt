@@ -1,9 +1,10 @@
--- A row that is read lies in the mask, and its bits are the definition's; without a mask all are 0.
+-- A row that is read lies in the mask, and its bits are the definition's; without a mask nothing is written.
 use denote.Ref.{now}
 use native.Mathlib.Omega.{arith}
+use mathlib.Core.Path.{refl}
+use Rattle.words.proofs.FillLaws.{filled-where, filled-nowhere}
 use Rattle.dib.proofs.HeaderLaws.{sound}
-use Rattle.meaning.specs.Sampling.{maskShown}
-use Rattle.meaning.proofs.FilledRowLaws.{fields-ok, blank-filled, mask-filled, line-reaches, bits-reach, mask-row-in}
+use Rattle.meaning.proofs.FilledRowLaws.{fields-ok, mask-filled, line-reaches, bits-reach, mask-row-in}
 use borrow.Author.Needs.{needs}
 use Rattle.meaning.proofs.rows.of_mask.Statement.{statement}
 use Rattle.meaning.proofs.rows.of_mask.Tie as tie
@@ -35,18 +36,18 @@ bits-requires c κs =
     let fields = fields-ok p fit there in
     let row = mask-row-in (p .y) (start .args .j) (p .header) _ _ fields (at-row .before .magnitude .ensures) (at-row .mask-column .ensures) in
     let reach = line-reaches (now (start .args .s)) p _ _ columns fit there row (c .before .row .ensures) (start .pre .0 .inside there) in
-    (start .pre .1 .0, bits-reach (p .header) (now (c .before .row .result)) columns fields reach)
+    (start .pre .1, bits-reach (p .header) (now (c .before .row .result)) columns fields reach)
 
 returns : tie.Need-returns
 returns c =
     let at-row = c .before .before .before .before in
     let start = at-row .before .before .before .before .before .before .before .before in
-    mask-filled (now (start .args .s)) (start .args .r) _ (now (start .args .columns)) (start .args .j) _ _ (at-row .before .before .before .if1 .taken)
-    (at-row .before .before .magnitude .ensures) (at-row .before .mask-column .ensures) (at-row .row .ensures) _ _ (c .before .before .bits .ensures)
+    let there = at-row .before .before .before .if1 .taken in
+    filled-where _ _ there (mask-filled (now (start .args .s)) (start .args .r) _ (now (start .args .columns)) (start .args .j) _ _ there
+    (at-row .before .before .magnitude .ensures) (at-row .before .mask-column .ensures) (at-row .row .ensures) _ _ (c .before .before .bits .ensures))
 
 returns-2 : tie.Need-returns-2
-unfolding maskShown
-returns-2 c = blank-filled _ _ _ _ (c .if1 .left) (c .before .before .before .before .before .pre .1 .1)
+returns-2 c = filled-nowhere _ _ (c .if1 .left) refl
 
 pub of-mask-spec : {M : Type 1} → statement M
 of-mask-spec =

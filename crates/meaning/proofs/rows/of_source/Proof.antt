@@ -1,8 +1,9 @@
--- A row that is read lies in the picture, and its pixels are the definition's; without a source all are 0.
+-- A row that is read lies in the picture, and its pixels are the definition's; without a source nothing is written.
+use mathlib.Core.Path.{refl}
 use denote.Ref.{now}
-use Rattle.meaning.specs.Sampling.{sourceShown}
+use Rattle.words.proofs.FillLaws.{filled-where, filled-nowhere}
 use Rattle.meaning.proofs.FitLaws.{source-fits, row-inside}
-use Rattle.meaning.proofs.FilledRowLaws.{blank-filled, source-filled, line-reaches, as-readable}
+use Rattle.meaning.proofs.FilledRowLaws.{source-filled, line-reaches, as-readable}
 use borrow.Author.Needs.{needs}
 use Rattle.meaning.proofs.rows.of_source.Statement.{statement}
 use Rattle.meaning.proofs.rows.of_source.Tie as tie
@@ -37,13 +38,12 @@ returns : tie.Need-returns
 returns c =
     let at-row = c .before .before .before .before in
     let start = at-row .before .before .before .before .before .before .before in
-    source-filled (now (start .args .s)) (start .args .r) (start .args .m) _ _ (now (start .args .columns)) (start .args .j) _
-    (start .pre .0 .masks) (start .pre .0 .shows) (at-row .before .before .if1 .taken) (at-row .before .source-column .ensures)
-    (at-row .row .ensures) _ _ (c .before .before .row2 .ensures)
+    let there = at-row .before .before .if1 .taken in
+    filled-where _ _ there (source-filled (now (start .args .s)) (start .args .r) (start .args .m) _ _ (now (start .args .columns)) (start .args .j) _
+    (start .pre .0 .masks) (start .pre .0 .shows) there (at-row .before .source-column .ensures) (at-row .row .ensures) _ _ (c .before .before .row2 .ensures))
 
 returns-2 : tie.Need-returns-2
-unfolding sourceShown
-returns-2 c = blank-filled _ _ _ _ (c .if1 .left) (c .before .before .before .before .before .pre .1 .2)
+returns-2 c = filled-nowhere _ _ (c .if1 .left) refl
 
 pub of-source-spec : {M : Type 1} → statement M
 of-source-spec = tie.close (tie.spec source-column-requires row-requires row-requires-2 (λ c. search needs) returns returns-2)
