@@ -12,7 +12,7 @@ use Rattle.pixel.specs.Raster.{rasterIndex, raster}
 use Rattle.pixel.specs.AndTerms.{spreadOf, sideOf, andOf, termOf, orOf, AndTerms}
 use Rattle.pixel.proofs.BitLaws.{bit-lt, on-bit, bit-and, bit-or, bit-xor, bit-zero, bit-ones, by-bits}
 
--- ---- a side at a bit
+-- ---- a side, a spread bit and an and at a bit
 
 -- x is 1 just where the digit and b are the same bit
 abbrev Same : (digit b x : ℕ) → Type 0
@@ -38,6 +38,16 @@ spread-bit : (op i k : ℕ) → k < 24 → bit (spreadOf op i) k ≡ bit op i
 unfolding spreadOf
 spread-bit op i k h = on-bit (λ (n : ℕ). bit (0xFFFFFF * n) k ≡ n) (bit-zero k) (bit-ones 24 k h) (bit op i) (bit-lt op i)
 
+and-bit : (p x y z k : ℕ) → bit (andOf p x y z) k ≡ min (min (min (bit p k) (bit x k)) (bit y k)) (bit z k)
+unfolding andOf
+and-bit p x y z k =
+    bit-and (bitAnd (bitAnd p x) y) z k
+    ∙ ap (λ (n : ℕ). min n (bit z k)) (bit-and (bitAnd p x) y k ∙ ap (λ (n : ℕ). min n (bit y k)) (bit-and p x k))
+
+and-le : (p x y z : ℕ) → andOf p x y z ≤ p
+unfolding andOf
+and-le p x y z = omega (arith, and-le-l p x, and-le-l (bitAnd p x) y, and-le-l (bitAnd (bitAnd p x) y) z)
+
 -- ---- a term at a bit
 
 digits : (i : ℕ) → i < 8 → i ≡ 4 * bit i 2 + 2 * bit i 1 + bit i 0
@@ -60,28 +70,17 @@ module _ (op b s t k : ℕ) (h : k < 24) where
   side : (i j colour : ℕ) → Same (bit i j) (bit colour k) (bit (sideOf (bit i j) colour) k)
   side i j colour = side-bit (bit i j) colour k (bit-lt i j) h
 
-  term-bit : (i : ℕ) → bit (termOf op i b s t) k
-      ≡ min (min (min (bit op i) (bit (sideOf (bit i 2) b) k)) (bit (sideOf (bit i 1) s) k)) (bit (sideOf (bit i 0) t) k)
-  unfolding termOf andOf
-  term-bit i =
-      let p = spreadOf op i in
-      let x = sideOf (bit i 2) b in
-      let y = sideOf (bit i 1) s in
-      let z = sideOf (bit i 0) t in
-      bit-and (bitAnd (bitAnd p x) y) z k ∙ ap (λ (n : ℕ). min n (bit z k)) (bit-and (bitAnd p x) y k)
-      ∙ ap (λ (n : ℕ). min (min n (bit y k)) (bit z k)) (bit-and p x k)
-      ∙ ap (λ (n : ℕ). min (min (min n (bit x k)) (bit y k)) (bit z k)) (spread-bit op i k h)
-
   carries : let i = rasterIndex b s t k in bit (termOf op i b s t) k ≡ bit op i
-  unfolding rasterIndex
+  unfolding termOf rasterIndex
   carries =
       let i = rasterIndex b s t k in
-      term-bit i ∙ one (bit-lt op i) (side i 2 b) (side i 1 s) (side i 0 t) (sym (digits i (index-lt b s t k)))
-      (bit-lt i 2) (bit-lt i 1) (bit-lt i 0) (bit-lt b k) (bit-lt s k) (bit-lt t k)
+      and-bit _ _ _ _ k ∙ one (bit-lt (spreadOf op i) k) (side i 2 b) (side i 1 s) (side i 0 t) (sym (digits i (index-lt b s t k)))
+      (bit-lt i 2) (bit-lt i 1) (bit-lt i 0) (bit-lt b k) (bit-lt s k) (bit-lt t k) ∙ spread-bit op i k h
 
   others : (i : ℕ) → i < 8 → i ≢ rasterIndex b s t k → bit (termOf op i b s t) k ≡ 0
-  unfolding rasterIndex
-  others i hi ne = term-bit i ∙ none (bit-lt op i) (side i 2 b) (side i 1 s) (side i 0 t) (λ e. ne (digits i hi ∙ e))
+  unfolding termOf rasterIndex
+  others i hi ne =
+      and-bit _ _ _ _ k ∙ none (bit-lt (spreadOf op i) k) (side i 2 b) (side i 1 s) (side i 0 t) (λ e. ne (digits i hi ∙ e))
 
 -- ---- the or
 
@@ -122,12 +121,8 @@ or-lt (suc n) term h = or-below 24 (orOf n term) _ (or-lt n term h) (or-lt n _ (
 -- ---- the claim
 
 term-lt : (op i b s t : ℕ) → termOf op i b s t < 2 ^ 24
-unfolding termOf andOf spreadOf
-term-lt op i b s t =
-    let p = spreadOf op i in
-    let x = sideOf (bit i 2) b in
-    let y = sideOf (bit i 1) s in
-    omega (arith, bit-lt op i, and-le-l p x, and-le-l (bitAnd p x) y, and-le-l (bitAnd (bitAnd p x) y) (sideOf (bit i 0) t))
+unfolding termOf spreadOf
+term-lt op i b s t = omega (arith, bit-lt op i, and-le (spreadOf op i) (sideOf (bit i 2) b) (sideOf (bit i 1) s) (sideOf (bit i 0) t))
 
 pub or-of-terms : (op b s t : ℕ) → raster op b s t ≡ orOf 3 (λ i. termOf op i b s t)
 unfolding raster
