@@ -4,12 +4,11 @@ use mathlib.Core.Path.{_≡_, refl, sym, _∙_}
 use mathlib.Core.Bool.{Bool, true, false, true≢false, _&&_, _||_}
 use Prim.Native.Nat.{ℕ, _+_, _≤_, _<_, min, max}
 use native.Mathlib.Omega.{arith}
-use lib.Dec.{ltb}
 use borrow.Author.Tests.{ltb-true, lt-ltb}
 use Rattle.words.proofs.ChoiceLaws.{or-some, or-by-first, or-by-last, and-both, and-by-second}
-use Rattle.emr.specs.declared.PictureFields.{PictureFields}
 use Rattle.emr.specs.declared.Fields.{Fields}
-use Rattle.emr.specs.SharedParts.{share, shareWithin, shareBetween, sharedParts, Part, sourceHeader, sourceBits, maskHeader, maskBits, Range, range, partsOf, Holds, Common, Apart, SaysRefusal21}
+use Rattle.emr.specs.SharedParts.{share, shareWithin, shareBetween, sharedParts, Part, sourceHeader, sourceBits, maskHeader, maskBits, Range, partsOf}
+use Rattle.emr.specs.SharedParts.{Holds, Common, Apart, SaysRefusal21}
 
 -- the test of two parts
 abbrev test : (p q : Range) → Bool
@@ -43,12 +42,18 @@ module _ (f : Fields) where
   abbrev of : Part → Range
   of = partsOf f
 
-  -- the source's header part against the mask's parts, and its bits part
-  abbrev header : Bool
-  header = test (of sourceHeader) (of maskHeader) || test (of sourceHeader) (of maskBits)
+  -- the four tests of a part of the source against a part of the mask
+  abbrev headers : Bool
+  headers = test (of sourceHeader) (of maskHeader)
 
-  abbrev bits : Bool
-  bits = header || test (of sourceBits) (of maskHeader)
+  abbrev header-bits : Bool
+  header-bits = test (of sourceHeader) (of maskBits)
+
+  abbrev bits-header : Bool
+  bits-header = test (of sourceBits) (of maskHeader)
+
+  abbrev both-bits : Bool
+  both-bits = test (of sourceBits) (of maskBits)
 
   -- ---- from the test to the two parts
 
@@ -60,12 +65,12 @@ module _ (f : Fields) where
 
   between : shareBetween (f .source) (f .mask) ≡ true → Common of
   between e =
-      let h = and-both (f .source .present && f .mask .present) (bits || test (of sourceBits) (of maskBits)) e in
+      let h = and-both (f .source .present && f .mask .present) (headers || header-bits || bits-header || both-bits) e in
       let u = and-both (f .source .present) (f .mask .present) (h .0) in
-      or-some bits (test (of sourceBits) (of maskBits))
-      (or-some header (test (of sourceBits) (of maskHeader))
-      (or-some (test (of sourceHeader) (of maskHeader)) (test (of sourceHeader) (of maskBits))
-      (common of sourceHeader maskHeader (λ d. true≢false cc) (u .0) (u .1)) (common of sourceHeader maskBits (λ d. true≢false cc) (u .0) (u .1)))
+      or-some (headers || header-bits || bits-header) both-bits
+      (or-some (headers || header-bits) bits-header
+      (or-some headers header-bits (common of sourceHeader maskHeader (λ d. true≢false cc) (u .0) (u .1))
+      (common of sourceHeader maskBits (λ d. true≢false cc) (u .0) (u .1)))
       (common of sourceBits maskHeader (λ d. true≢false cc) (u .0) (u .1)))
       (common of sourceBits maskBits (λ d. true≢false cc) (u .0) (u .1)) (h .1)
 
@@ -89,41 +94,48 @@ module _ (f : Fields) where
       or-by-first (shareWithin (f .source) || shareWithin (f .mask)) _
       (or-by-last (shareWithin (f .source)) _ (and-by-second (f .mask .present) _ (h .present) (byte-shared _ _ k h l)))
 
-  cross-pair : f .source .present ≡ true → f .mask .present ≡ true → (bits || test (of sourceBits) (of maskBits)) ≡ true → sharedParts f ≡ true
+  cross-pair : f .source .present ≡ true → f .mask .present ≡ true → (headers || header-bits || bits-header || both-bits) ≡ true
+      → sharedParts f ≡ true
   unfolding sharedParts
   cross-pair u v e =
       or-by-last (shareWithin (f .source) || shareWithin (f .mask)) (shareBetween (f .source) (f .mask))
       (and-by-second (f .source .present && f .mask .present) _ (and-by-second (f .source .present) _ u v) e)
 
-  headers : (k : ℕ) → Holds (of sourceHeader) k → Holds (of maskHeader) k → sharedParts f ≡ true
-  headers k h l = cross-pair (h .present) (l .present) (or-by-first bits _ (or-by-first header _ (or-by-first _ _ (byte-shared _ _ k h l))))
-
-  header-bits : (k : ℕ) → Holds (of sourceHeader) k → Holds (of maskBits) k → sharedParts f ≡ true
-  header-bits k h l =
+  headers-pair : (k : ℕ) → Holds (of sourceHeader) k → Holds (of maskHeader) k → sharedParts f ≡ true
+  headers-pair k h l =
       cross-pair (h .present) (l .present)
-      (or-by-first bits _ (or-by-first header _ (or-by-last (test (of sourceHeader) (of maskHeader)) _ (byte-shared _ _ k h l))))
+      (or-by-first (headers || header-bits || bits-header) _
+      (or-by-first (headers || header-bits) _ (or-by-first headers _ (byte-shared _ _ k h l))))
 
-  bits-header : (k : ℕ) → Holds (of sourceBits) k → Holds (of maskHeader) k → sharedParts f ≡ true
-  bits-header k h l = cross-pair (h .present) (l .present) (or-by-first bits _ (or-by-last header _ (byte-shared _ _ k h l)))
+  header-bits-pair : (k : ℕ) → Holds (of sourceHeader) k → Holds (of maskBits) k → sharedParts f ≡ true
+  header-bits-pair k h l =
+      cross-pair (h .present) (l .present)
+      (or-by-first (headers || header-bits || bits-header) _
+      (or-by-first (headers || header-bits) _ (or-by-last headers _ (byte-shared _ _ k h l))))
 
-  both-bits : (k : ℕ) → Holds (of sourceBits) k → Holds (of maskBits) k → sharedParts f ≡ true
-  both-bits k h l = cross-pair (h .present) (l .present) (or-by-last bits _ (byte-shared _ _ k h l))
+  bits-header-pair : (k : ℕ) → Holds (of sourceBits) k → Holds (of maskHeader) k → sharedParts f ≡ true
+  bits-header-pair k h l =
+      cross-pair (h .present) (l .present)
+      (or-by-first (headers || header-bits || bits-header) _ (or-by-last (headers || header-bits) _ (byte-shared _ _ k h l)))
+
+  bits-pair : (k : ℕ) → Holds (of sourceBits) k → Holds (of maskBits) k → sharedParts f ≡ true
+  bits-pair k h l = cross-pair (h .present) (l .present) (or-by-last (headers || header-bits || bits-header) _ (byte-shared _ _ k h l))
 
   only : (one other : Part) → (one ≡ other → ⊥) → (k : ℕ) → Holds (of one) k → Holds (of other) k → sharedParts f ≡ true
   only sourceHeader sourceHeader d k h l = absurd (d refl)
   only sourceHeader sourceBits d k h l = source-pair k h l
-  only sourceHeader maskHeader d k h l = headers k h l
-  only sourceHeader maskBits d k h l = header-bits k h l
+  only sourceHeader maskHeader d k h l = headers-pair k h l
+  only sourceHeader maskBits d k h l = header-bits-pair k h l
   only sourceBits sourceHeader d k h l = source-pair k l h
   only sourceBits sourceBits d k h l = absurd (d refl)
-  only sourceBits maskHeader d k h l = bits-header k h l
-  only sourceBits maskBits d k h l = both-bits k h l
-  only maskHeader sourceHeader d k h l = headers k l h
-  only maskHeader sourceBits d k h l = bits-header k l h
+  only sourceBits maskHeader d k h l = bits-header-pair k h l
+  only sourceBits maskBits d k h l = bits-pair k h l
+  only maskHeader sourceHeader d k h l = headers-pair k l h
+  only maskHeader sourceBits d k h l = bits-header-pair k l h
   only maskHeader maskHeader d k h l = absurd (d refl)
   only maskHeader maskBits d k h l = mask-pair k h l
-  only maskBits sourceHeader d k h l = header-bits k l h
-  only maskBits sourceBits d k h l = both-bits k l h
+  only maskBits sourceHeader d k h l = header-bits-pair k l h
+  only maskBits sourceBits d k h l = bits-pair k l h
   only maskBits maskHeader d k h l = mask-pair k l h
   only maskBits maskBits d k h l = absurd (d refl)
 

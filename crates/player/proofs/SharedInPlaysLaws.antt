@@ -12,7 +12,7 @@ use Rattle.judge.specs.SharedBytes.{partsNamed, before21}
 use Rattle.judge.proofs.SharedBytesLaws.{shared-bytes}
 use Rattle.journal.specs.Drawing.{Work}
 use Rattle.memory.specs.Memory.{Memory, Outcome, outcome, settle, badSurface, badJournal, surfaceStatus, journalStatus, limits, memoryStatus, records}
-use Rattle.memory.specs.Playing.{counted, fullStatus, playStatus, playOf}
+use Rattle.memory.specs.Playing.{counted, fullStatus, playOf}
 use Rattle.player.specs.Calls.{Play, work, playOutcome}
 use Rattle.player.specs.SharedInPlays.{SharedInPlays}
 use Rattle.player.proofs.Conditions.{condition2}
