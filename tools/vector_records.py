@@ -2,7 +2,7 @@
 """Writes crates/vectors/stdin and crates/vectors/stdout; run it from the repository's root.
 
 The records are built by hand from documents 000, 001, 003 and 004 and document 01's byte places. The status beside each
-is written down from document 01's table of refusals; nothing here judges a record.
+is written down from document 01's table of refusals and document 02; nothing here judges a record.
 
 An entry of stdin: the label's length, the label, the status that should come, the record's length, the record; numbers
 are 32-bit little-endian. The program's line for it is `LABEL: STATUS, should be STATUS`.
@@ -146,6 +146,16 @@ if [len(x) for x in (S, B, M, N, BARE)] != [END, B_END, M_END, N_END, 80]:
     sys.exit("the sound records have other lengths")
 
 
+def placed(header, bits_at, mask_header, mask_bits):
+    "EMR_MASKBLT with a 16-bit source and a 1-bit mask whose parts (of 40, 8, 48 and 8 bytes) stand at these places."
+    stood = [(header, P16[0]), (bits_at, P16[1]), (mask_header, P1[0]), (mask_bits, P1[1])]
+    record = bytearray(M[:128]) + bytearray(max(at + len(part) for at, part in stood) - 128)
+    for at, part in stood:
+        record[at:at + len(part)] = part
+    record += bytes(-len(record) % 4)
+    return sized(patch(record, 84, header, 92, bits_at, 112, mask_header, 120, mask_bits))
+
+
 def source51(*picture):
     return stretch(picture)
 
@@ -220,7 +230,42 @@ add(6,
     ("0x4E: mask's bits part one past Size", patch(N, 120, N_END - 7)),
     ("0x4E: mask's bits part at 0xFFFFFFF0 of 32 bytes", patch(N, 120, 0xFFFFFFF0, 124, 32)),
     ("0x4E: mask's empty bits part at 0", patch(N, 120, 0, 124, 0)),
-    ("6 before 7: source's usage 1, mask's bits part one past Size", patch(M, 80, 1, 120, M_END - 7)))
+    ("6 before 7: source's usage 1, mask's bits part one past Size", patch(M, 80, 1, 120, M_END - 7)),
+    ("6 before 21: header part at 79, the bits part there too", patch(S, 48, 79, 56, 79)),
+    ("6 before 21: source's parts share a byte, mask's bits part one past Size", patch(M, 92, 167, 120, M_END - 7)))
+
+# Document 02, item 5. The parts of S are 80..119 and 120..127, of B 108..147 and 148..155, of N 128..175 and 176..183, of M
+# 128..167, 168..175, 176..223 and 224..231. FRONT has its bits part first: 80..87, then 88..127.
+FRONT = patch(stretch((bits(8), P16[0])), 48, 88, 52, 40, 56, 80, 60, 8)
+add(21,
+    ("0x51: bits part begins at the header part's last byte", patch(S, 56, 119)),
+    ("0x51: header part begins at the bits part's last byte", patch(FRONT, 48, 87)),
+    ("0x51: parts overlap", patch(S, 56, 81)),
+    ("0x51: header and bits the same bytes", patch(S, 56, 80, 60, 40)),
+    ("0x51: bits part inside the header part", patch(S, 56, 100)),
+    ("0x51: header part inside the bits part", patch(S, 56, 80, 60, 48)),
+    ("0x51: colour table inside the bits part", patch(stretch(P1), 56, 120, 60, 16)),
+    ("0x51: header part one byte longer than needed, the bits part's first", patch(S, 52, 41)),
+    ("0x51: bits part one byte longer than needed, the header part's first", patch(FRONT, 60, 9)),
+    ("0x51: ROP 0xF0, which needs no source, with parts that share a byte", patch(stretch(P16, 0xF0), 56, 119)),
+    ("0x72: bits part begins at the header part's last byte", patch(B, 92, 147)),
+    ("0x4E: source's header and source's bits share a byte", placed(128, 167, 176, 224)),
+    ("0x4E: source's header and mask's header share a byte", placed(128, 216, 167, 224)),
+    ("0x4E: source's header and mask's bits share a byte", placed(128, 176, 184, 167)),
+    ("0x4E: source's bits and mask's header share a byte", placed(128, 168, 175, 224)),
+    ("0x4E: source's bits and mask's bits share a byte", placed(128, 168, 184, 175)),
+    ("0x4E: mask's header and mask's bits share a byte", placed(128, 168, 176, 223)),
+    ("0x4E: no source, mask's parts share a byte", patch(N, 120, 175)),
+    ("0x4E: no mask, source's parts share a byte", patch(maskblt(P16, None), 92, 167)),
+    ("0x4E: mask and source the same parts", patch(maskblt(P1, P1), 112, 128, 120, 176)),
+    ("0x4E: mask and source with one header part", patch(maskblt(P1, P1), 112, 128)),
+    ("0x4E: mask's header part inside the source's bits part", patch(M, 96, 56)),
+    ("21 before 7: usage 1, parts share a byte", patch(S, 56, 119, 64, 1)),
+    ("21 before 7: first float a NaN, parts share a byte", patch(B, 92, 147, 52, QUIET)),
+    ("21 before 7: source's usage 1, mask's parts share a byte", patch(M, 80, 1, 120, 223)),
+    ("21 before 8: planes 2, parts share a byte", patch(source51(info(2, 2, 16, planes=2), bits(8)), 56, 119)),
+    ("21 before 10: bits part of 1 byte inside the header part", patch(S, 56, 100, 60, 1)),
+    ("21 before 13: mask of 16 bits, its parts share a byte", patch(masked(P16), 120, 167)))
 
 add(7,
     ("0x72: first float 2", patch(B, 52, 0x40000000)),
@@ -249,6 +294,8 @@ add(7,
 
 add(8,
     ("empty header part at 80", patch(S, 52, 0)),
+    ("empty header part inside the bits part", patch(S, 48, 124, 52, 0)),
+    ("0x4E: mask's empty header part inside the source's bits part", patch(M, 112, 170, 116, 0)),
     ("header part of 3 bytes", patch(S, 52, 3)),
     ("header part of 39 bytes", patch(S, 52, 39)),
     ("header of 108 bytes in a part of 40", source51(v4(2, 2, 16)[:40], bits(8))),
@@ -328,6 +375,8 @@ add(10,
     ("1 bit: row bytes one short", source51(P1[0], bits(7))),
     ("32 bits: row bytes one short", source51(P32[0], bits(15))),
     ("empty bits part at Size", patch(S, 56, END, 60, 0)),
+    ("empty bits part inside the header part", patch(S, 56, 100, 60, 0)),
+    ("empty bits part at the header part's place", patch(S, 56, 80, 60, 0)),
     ("height 16384 and 16 bytes", source51(info(2, 16384, 24), bits(16))),
     ("16384 by 16384 of 32 bits and 16 bytes", source51(info(16384, 16384, 32), bits(16))),
     ("0x72: row bytes one short", blend((P32[0], bits(15)))),
@@ -461,8 +510,6 @@ add(0,
     ("0x51: header part longer than needed", source51(P16[0] + bytes(9), bits(8))),
     ("0x51: bits part longer than needed", source51(P16[0], bits(17))),
     ("0x51: bits part before the header part", patch(stretch((bits(8), P16[0])), 48, 88, 52, 40, 56, 80, 60, 8)),
-    ("0x51: parts overlap", patch(S, 56, 81)),
-    ("0x51: header and bits the same bytes", patch(S, 56, 80, 60, 40)),
     ("0x51: header part at an odd place",
      sized(patch(BARE, 48, 81, 52, 40, 56, 121, 60, 8) + b"\x77" + P16[0] + bits(8) + bytes(3))),
     ("0x51: ROP 0xF0 with a source", stretch(P16, 0xF0)),
@@ -494,7 +541,14 @@ add(0,
     ("0x4E: mask at (-1,000,000, 1,000,000)", maskblt(P16, P1, mask_corner=(-1000000, 1000000))),
     ("0x4E: mask with a V4 header", masked((v4(2, 2, 1) + table(2), bits(8)))),
     ("0x4E: mask with 1 colour", masked((info(2, 2, 1, colours=1) + table(1), bits(8)))),
-    ("0x4E: mask and source the same parts", patch(maskblt(P1, P1), 112, 128, 120, 176)))
+    ("0x4E: mask and source alike, each with its own parts", maskblt(P1, P1)),
+    # Parts that touch: each of the six pairs at least once.
+    ("0x4E: source's header, mask's header, source's bits, mask's bits", placed(128, 216, 168, 224)),
+    ("0x4E: source's header, mask's bits, source's bits, mask's header", placed(128, 176, 184, 168)),
+    ("0x4E: mask's bits, mask's header, source's bits, source's header", placed(192, 184, 136, 128)),
+    # What stands where 0x4E has its mask's fields names the same parts; 0x51 has no mask.
+    ("0x51: other bytes name the parts once more",
+     sized(patch(BARE, 48, 128, 52, 40, 56, 168, 60, 8) + bytes(32) + words(128, 40, 168, 8) + P16[0] + bits(8))))
 
 # ---- the numbers that the program prints before the records: what is asked, what should come
 
@@ -619,14 +673,14 @@ def main():
         sys.exit("two records have one label: " + next(x for x in labels if labels.count(x) > 1))
     entries = b"".join(words(len(label)) + label.encode("ascii") + words(status, len(record)) + record
                        for label, status, record in ENTRIES)
-    if len(entries) > 60000:
-        sys.exit(f"{len(entries)} bytes: keep below the 65536 of the program's buffer")
+    if len(entries) > 262144:
+        sys.exit(f"{len(entries)} bytes: keep within the 262144 of the program's buffer")
     lines = NUMBERS + [(label, str(status)) for label, status, _ in ENTRIES]
     with open("crates/vectors/stdin", "wb") as out:
         out.write(entries)
     with open("crates/vectors/stdout", "w", encoding="ascii", newline="\n") as out:
         out.write("".join(f"{asked}: {answer}, should be {answer}\n" for asked, answer in lines))
-    counts = ", ".join(f"{status}: {[s for _, s, _ in ENTRIES].count(status)}" for status in [0] + list(range(3, 14)))
+    counts = ", ".join(f"{status}: {[s for _, s, _ in ENTRIES].count(status)}" for status in [0, 3, 4, 5, 6, 21, *range(7, 14)])
     print(f"{len(ENTRIES)} records, {len(entries)} bytes; by status: {counts}")
 
 

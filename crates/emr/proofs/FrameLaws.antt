@@ -1,4 +1,4 @@
--- A picture that status 6 lets pass lies in the record, and an absent one is empty. Assumes nothing.
+-- A picture that status 6 lets pass lies in the record, and an absent one is empty; parts that 21 lets pass are apart. Assumes nothing.
 use mathlib.Core.Path.{_≡_, refl}
 use mathlib.Core.Bool.{Bool, true, false, cond, _&&_, _||_}
 use mathlib.Core.List.{List}
@@ -10,8 +10,11 @@ use borrow.Author.Tests.{eqb-true, ltb-false, not-false}
 use Rattle.words.proofs.ChoiceLaws.{or-none, and-both, given-none}
 use Rattle.emr.specs.declared.Offsets.{Offsets}
 use Rattle.emr.specs.declared.PictureFields.{PictureFields}
+use Rattle.emr.specs.declared.Fields.{Fields}
 use Rattle.emr.specs.Fixed.{isPresent, noFields, pictureAt, fieldsAt}
-use Rattle.emr.specs.FrameStatus.{outside, badParts, partsStatus}
+use Rattle.emr.specs.SharedParts.{sharedParts, partsOf, Apart}
+use Rattle.emr.specs.FrameStatus.{outside, badParts, anyOutside, partsStatus}
+use Rattle.emr.proofs.SharedPartsLaws.{apart}
 
 pub record Inside (len : ℕ) (p : PictureFields) : Type 0 where
   pub header : p .bmi + p .«bmi_len» ≤ len
@@ -55,3 +58,7 @@ unfolding partsStatus fieldsAt
 inside s at e =
     let o = or-none (badParts (length s) (at .fixed) (fieldsAt s at .source)) _ (given-none 6 _ _ (lit< tt) e .0) in
     (parts-inside _ _ (fieldsAt s at .source) refl (o .0), parts-inside _ _ (fieldsAt s at .mask) (mask-flagged s (at .mask) (eqb (at .mask) 0)) (o .1))
+
+pub parts-apart : (s : List ℕ) (at : Offsets) (f : Fields) → partsStatus s at f ≡ 0 → Apart (partsOf f)
+unfolding partsStatus
+parts-apart s at f e = apart f (given-none 21 (sharedParts f) _ (lit< tt) (given-none 6 (anyOutside (length s) (at .fixed) f) _ (lit< tt) e .1) .0)

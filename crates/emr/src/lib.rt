@@ -1,7 +1,8 @@
-// A record's frame: the table of types, its fixed part as fields, and statuses 3 to 7.
+// A record's frame: the table of types, its fixed part as fields, and statuses 3 to 7, with 21 between 6 and 7.
 use region::Rectangle;
 
 pub mod fixed;
+mod shared;
 pub mod status;
 pub mod types;
 pub mod xform;

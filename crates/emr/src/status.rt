@@ -1,4 +1,4 @@
-// Statuses 3 to 7.
+// Statuses 3 to 7, and 21 between 6 and 7.
 ghost use mathlib.Core.Path.{_≡_};
 ghost use Prim.Native.Nat.{_≤_};
 ghost use Rattle.emr.specs.FrameStatus.{badLength, badSize, frameStatus, outside as outsideOf, badParts, badTransform, badUsage, partsStatus};
@@ -58,12 +58,17 @@ fn bad_usage(p: PictureFields) -> bool
     p.present & (p.usage != 0)
 }
 
-// 6, 7, or 0.
+// 6, 21, 7, or 0.
 pub fn parts(s: &[u8], at: Offsets, f: Fields) -> u32
     requires { ⌜ Near at ⌝ }
     ensures { λ r. ⌜ r ≡ partsStatus (now (s .entry)) at f ⌝ }
 {
     let outside = bad_parts(s.len(), at.fixed, f.source) | bad_parts(s.len(), at.fixed, f.mask);
+    let shared = crate::shared::parts(f);
     let unread = bad_transform(s, at.transform) | bad_usage(f.source) | bad_usage(f.mask);
-    words::given(6, outside, words::given(7, unread, 0))
+    words::given(
+        6,
+        outside,
+        words::given(21, shared, words::given(7, unread, 0)),
+    )
 }

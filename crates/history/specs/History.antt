@@ -59,7 +59,7 @@ abbrev pub turn : (status number : ℕ) → History → Turn
 turn status number next = record { answer = answered status number; next = next }
 
 -- "if a refusal ordered from 3 to 13 applies to its record, the answer is the first of these and 0 pixels. Otherwise, if its count + 1
--- exceeds the journal's records less the room, the answer is 14 and 0 pixels."
+-- exceeds the journal's records less the room, the answer is 14 and 0 pixels." With document 02, item 5, 21 is among them, in its place.
 unfoldable pub pushStatus : (width height : ℕ) → Play → History → ℕ
 pushStatus width height p q =
     orElse (statusOf (p .bytes)) (given 14 (ltb (q .records - usedOf width height q) (count width height p + 1)) 0)

@@ -1,4 +1,4 @@
--- An accepted record is good: every test of 6, 8, 9, 10 and 12 was passed, and each says one field of `Good`. Assumes nothing.
+-- An accepted record is good: every test of 6, 21, 8, 9, 10 and 12 was passed, and each says one field of `Good`. Assumes nothing.
 use mathlib.Core.Path.{_≡_, refl, sym, _∙_}
 use mathlib.Core.Bool.{Bool, false, _||_, _&&_}
 use mathlib.Core.List.{List}
@@ -12,7 +12,8 @@ use Rattle.dib.specs.Header.{rows}
 use Rattle.dib.specs.HeaderStatus.{badHeader, badMasks, bitsNeeded, dibStatus}
 use Rattle.emr.specs.declared.Row.{Row}
 use Rattle.emr.specs.FrameStatus.{frameStatus, partsStatus}
-use Rattle.emr.proofs.FrameLaws.{inside}
+use Rattle.emr.specs.SharedParts.{Apart}
+use Rattle.emr.proofs.FrameLaws.{inside, parts-apart}
 use Rattle.judge.specs.declared.Picture.{Picture}
 use Rattle.judge.specs.declared.Record.{Record}
 use Rattle.judge.specs.declared.Checked.the-variants.{Accepted}
@@ -20,7 +21,7 @@ use Rattle.judge.specs.Operation.{badOperation}
 use Rattle.judge.specs.Geometry.{badTarget, badSigns, badSource}
 use Rattle.judge.specs.Record.{rowIn, fieldsIn, recordOf}
 use Rattle.judge.specs.Check.{pictureStatus, dibsStatus, badGeometry, callStatus, laterStatus, statusOf, settled, checkOf}
-use Rattle.judge.specs.Good.{Fit, Good}
+use Rattle.judge.specs.Good.{Fit, partsIn, Good}
 
 picture-fit : (len : ℕ) (p : Picture) → p .bmi + p .«bmi_len» ≤ len → p .bits + p .«bits_len» ≤ len → pictureStatus p ≡ 0 → Fit len p
 unfolding pictureStatus dibStatus
@@ -51,12 +52,12 @@ module _ (signed : Bool) (r : Record) where
   unfolding badGeometry
   geometry-parts e = or-none early _ (or-none (early || r .source .present && source-bad) _ e .0)
 
--- a record that 8 to 13 let pass, with its parts inside
+-- a record that 8 to 13 let pass, with its parts inside and apart
 good : (row : Row) (operation : ℕ) (r : Record) (len : ℕ)
     → (laterStatus row operation r ≡ 0) → (pictureStatus (r .source) ≡ 0 → Fit len (r .source)) → (pictureStatus (r .mask) ≡ 0 → Fit len (r .mask))
-    → Good len r
+    → Apart (partsIn r) → Good len r
 unfolding laterStatus dibsStatus callStatus
-good row operation r len e source mask =
+good row operation r len e source mask apart =
     let d = orElse-none (dibsStatus r) (callStatus row operation r) e in
     let l = lowest-none (pictureStatus (r .source)) (pictureStatus (r .mask)) (d .0) in
     let b = given-none 11 (badOperation (row .form) operation (r .action) (r .source .present) (r .source .header)) _ (lit< tt) (d .1) in
@@ -65,6 +66,7 @@ good row operation r len e source mask =
     record {
       source = source (l .0);
       mask = mask (l .1);
+      apart = apart;
       target = or-none (badTarget (r .x) (r .y) (r .cx) (r .cy)) _ (g .0) .0;
       inside = λ q. sym (and-by-second (r .source .present) _ q refl) ∙ g .1;
     }
@@ -79,5 +81,5 @@ accepted s r e =
     let g : Good (length s) (recordOf s) =
     good (rowIn s) (fieldsIn s .operation) (recordOf s) (length s) (f .1)
     (picture-fit (length s) (recordOf s .source) (i .0 .header) (i .0 .bits))
-    (picture-fit (length s) (recordOf s .mask) (i .1 .header) (i .1 .bits)) in
+    (picture-fit (length s) (recordOf s .mask) (i .1 .header) (i .1 .bits)) (parts-apart s (rowIn s .at) (fieldsIn s) (p .1)) in
     (a .1, rw (a .1) g)

@@ -1,4 +1,5 @@
--- Document 01, "Refusals and their order": statuses 8 to 13, and the whole order of 3 to 13. Definitions only.
+-- Document 01, "Refusals and their order": statuses 8 to 13, and the whole order of 3 to 13; with document 02, item 5,
+-- "1 to 6, 21, 7 onwards". Definitions only.
 use Prim.Native.Nat.{ℕ, zero, suc}
 use mathlib.Core.Bool.{Bool, cond, not, _&&_, _||_}
 use mathlib.Core.List.{List}
@@ -43,7 +44,7 @@ callStatus row operation r =
 unfoldable pub laterStatus : Row → (operation : ℕ) → Record → ℕ
 laterStatus row operation r = orElse (dibsStatus r) (callStatus row operation r)
 
--- 3 to 13
+-- 3 to 6, 21, 7 to 13
 unfoldable pub statusOf : List ℕ → ℕ
 statusOf s =
     orElse (orElse (frameStatus s (rowIn s .at)) (partsStatus s (rowIn s .at) (fieldsIn s)))

@@ -4,3 +4,4 @@ pub mod SignedGeometry
 pub mod Record
 pub mod Good
 pub mod Check
+pub mod SharedBytes

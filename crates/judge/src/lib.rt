@@ -155,7 +155,7 @@ fn settle(status: u32, r: Record) -> Checked
     }
 }
 
-// The first of 3 to 13 that applies, or the record as one value.
+// The first of 3 to 6, 21 and 7 to 13 that applies, or the record as one value.
 pub fn check(s: &[u8]) -> Checked
     ensures { λ r. ⌜ r ≡ checkOf (now (s .entry)) ⌝ }
 {
@@ -170,7 +170,7 @@ pub fn check(s: &[u8]) -> Checked
     settle(words::or_else(framed, later_status(row, f.operation, r)), r)
 }
 
-// Document 01's number for a record: the first of 3 to 13 that applies, or 0.
+// The record's status: the first of 3 to 6, 21 and 7 to 13 that applies, or 0.
 pub fn status(s: &[u8]) -> u32
     ensures { λ r. ⌜ (r ≡ statusIn (checkOf (now (s .entry)))) × (r ≡ statusOf (now (s .entry))) ⌝ }
 {

@@ -6,7 +6,7 @@ ghost use lib.ListN.{length};
 use crate::line;
 
 pub fn all() {
-    let mut space = io::large_buffer();
+    let mut space = [0u8; 262144];
     let n = io::read_full(0, &mut space);
     walk(&space[..n]);
 }
