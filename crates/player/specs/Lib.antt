@@ -4,3 +4,4 @@ pub mod Pixels
 pub mod Conditions
 pub mod Rop4Order
 pub mod CutInPlays
+pub mod SharedInPlays
