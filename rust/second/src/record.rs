@@ -226,7 +226,7 @@ fn operation(record: &[u8], kind: Kind) -> Operation {
     }
 }
 
-/// A record that no refusal ordered from 3 to 13 meets, nor 21 among them.
+/// A record that no refusal ordered from 3 to 13, 21 among them, meets.
 #[derive(Clone, Debug)]
 pub struct Sound {
     pub fixed: Fixed,

@@ -84,8 +84,8 @@ fn refused_calls_and_the_ones_behind_them() {
     assert_eq!(answers, [15, 0, 3, 0, 3, 0, 0, 2, 14, 0]);
 }
 
-/// 0x51 of 124 bytes with a source of one pixel: header at 80 to 119, bits at
-/// this offset, which is 120 where they do not share a byte with it (A50).
+/// 0x51 of 124 bytes with a source of one pixel: header at 80 to 119, and four
+/// bytes of bits at this offset.
 fn copy(bits_at: u32) -> Vec<u8> {
     let fixed = [0x51, 124, 0, 0, 1, 0, 0, 0, 0, 0, 1, 1, 80, 40, bits_at, 4, 0, 0x00CC_0020, 1, 1];
     let header = [40, 1, 1, 1 | 24 << 16, 0, 0, 0, 0, 0, 0];
@@ -94,7 +94,8 @@ fn copy(bits_at: u32) -> Vec<u8> {
 
 #[test]
 fn shared_parts_among_other_calls() {
-    // The pile's sheet and room stay at a 21, and the next play draws.
+    // 21 in its place among those ordered from 3 to 13 (A50): sheet and room
+    // stay, and the next play draws.  From 120 on the bits stand by themselves.
     let calls = [copy(119), copy(120), copy(80), whole(), copy(119), undo(), undo(), copy(119), undo()];
     let (ran, surface, journal, answers) = left(&list(9, &calls), 5, 18);
     assert_eq!(ran, Ran { status: 0, calls: 9, used: 0 });
