@@ -35,8 +35,8 @@ enum {
     LACRUMONT_JOURNAL_RECORD = 12           /* bytes of a journal record */
 };
 
-/* What a call answers. The lowest number that applies is given, exactly where it applies. A refused call changes no byte of the
- * surface and of the journal and not the count in use, and counts 0 pixels. */
+/* What a call answers. The first that applies is given, exactly where it applies; they are judged in the order in which they stand
+ * here. A refused call changes no byte of the surface and of the journal and not the count in use, and counts 0 pixels. */
 enum lacrumont_status {
     LACRUMONT_OK = 0,
     LACRUMONT_BAD_SURFACE = 1,    /* sides not 1..4,096, or pixels lent are not width * height */
@@ -45,6 +45,7 @@ enum lacrumont_status {
     LACRUMONT_BAD_TYPE = 4,       /* type not 0x72 (alpha blend), 0x4E (mask blit) or 0x51 (stretched DIB) */
     LACRUMONT_BAD_SIZE = 5,       /* Size not the lent length, not a multiple of 4, or below the fixed part */
     LACRUMONT_BAD_PART = 6,       /* a present picture's part begins before the fixed part's end or ends past Size */
+    LACRUMONT_SHARED_PARTS = 21,  /* two parts of the pictures share a byte; judged between 6 and 7 */
     LACRUMONT_BAD_TRANSFORM = 7,  /* XformSrc not the identity, or a present picture's usage not 0 */
     LACRUMONT_BAD_HEADER = 8,     /* header part too short, or a header field not listed or out of bounds */
     LACRUMONT_BAD_MASKS = 9,      /* under BI_BITFIELDS, a channel mask breaks its rules */
@@ -60,7 +61,7 @@ enum lacrumont_status {
 };
 
 /* Plays the record, cut to the clip (left, top, right, bottom; right and bottom not included; any numbers) with the brush's low
- * 24 bits (red << 16 | green << 8 | blue). Statuses 0 to 14. An empty or inverted clip is accepted.
+ * 24 bits (red << 16 | green << 8 | blue). Statuses 0 to 14, 21. An empty or inverted clip is accepted.
  *
  * The clipped target is the record's target as far as it lies in the clip and on the surface; it is empty where the record's
  * Bounds (both corners included) do not meet the clip on the surface. An alpha blend blends the surface's alpha with its colours; a
@@ -109,7 +110,7 @@ enum lacrumont_number {
     LACRUMONT_NUMBERS = 13
 };
 
-/* Reads the record's source (mask 0) or mask (any other number). Statuses 0 and 3 to 13: the whole record is judged. A picture is
+/* Reads the record's source (mask 0) or mask (any other number). Statuses 0, 3 to 13, 21: the whole record is judged. A picture is
  * absent where its four offset and size fields are 0; the types 0x72 and 0x51 have no mask. */
 uint32_t lacrumont_read(const uint8_t *record, size_t record_len, uint32_t mask, uint64_t out[LACRUMONT_NUMBERS]);
 

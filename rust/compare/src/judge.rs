@@ -4,7 +4,7 @@ use crate::calls::{Case, Play, Stage, Step, JOURNAL_BUFFER, MOST_RECORDS, RECORD
 use crate::library;
 use crate::runs::Run;
 use crate::tally::{Call, Tally};
-use face::constants::{HEADER_AT, JOURNAL_RECORD, MOST_RECORD, NUMBERS, VIEW_AT};
+use face::constants::{HEADER_AT, JOURNAL_RECORD, MOST_RECORD, NUMBERS, SHARED_PARTS, VIEW_AT};
 use second::{Answer, Clip, Pile};
 use std::fmt::Debug;
 use std::ops::Range;
@@ -250,6 +250,9 @@ impl Judge {
                     let sound = second::check(&play.record).expect("just accepted");
                     self.tally.drawn(&play.record, &sound, got.pixels);
                 }
+                if got.status == SHARED_PARTS {
+                    self.tally.shared(&play.record);
+                }
             }
         }
     }
@@ -291,6 +294,9 @@ impl Judge {
         }
         same_reading(record, mask, status, &numbers, &palette).map_err(|text| format!("reading {mask}: {text}"))?;
         self.tally.count(Call::Read, status);
+        if status == SHARED_PARTS {
+            self.tally.shared(record);
+        }
         self.tally.long_records += u64::from(status == 3 && record.len() > MOST_RECORD);
         Ok(())
     }

@@ -1,7 +1,9 @@
 //! What a run has made: how often each status was given, and which shapes of record were drawn.
 
 use crate::runs::{Damage, DAMAGES};
-use second::record::{Operation, Sound};
+use records::{bytes, places::TYPE};
+use second::record::{Fixed, Kind, Operation, Sound};
+use std::collections::BTreeMap;
 use std::fmt;
 
 #[derive(Clone, Copy, Debug, PartialEq, Eq)]
@@ -11,19 +13,36 @@ pub enum Call {
     Read,
 }
 
-/// The statuses that a call can give.
-fn possible(call: Call, status: usize) -> bool {
+/// How often each status was given, whichever it was.
+type Given = BTreeMap<u32, u64>;
+
+fn times(given: &Given, status: u32) -> u64 {
+    given.get(&status).copied().unwrap_or(0)
+}
+
+/// The statuses that a call can give, in the papers' order.
+fn statuses(call: Call) -> &'static [u32] {
     match call {
-        Call::Play => status <= 14,
-        Call::Undo => matches!(status, 0 | 1 | 2 | 15 | 16),
-        Call::Read => matches!(status, 0 | 3..=13),
+        Call::Play => &[0, 1, 2, 3, 4, 5, 6, 21, 7, 8, 9, 10, 11, 12, 13, 14],
+        Call::Undo => &[0, 1, 2, 15, 16],
+        Call::Read => &[0, 3, 4, 5, 6, 21, 7, 8, 9, 10, 11, 12, 13],
     }
 }
 
 const CALLS: [Call; 3] = [Call::Play, Call::Undo, Call::Read];
-/// The statuses of a run, and those of the calls in it.
+/// Those of all calls; those of a run, and of the calls in it.
+const STATUSES: [u32; 18] = [0, 1, 2, 3, 4, 5, 6, 21, 7, 8, 9, 10, 11, 12, 13, 14, 15, 16];
 const RUN_STATUSES: [u32; 5] = [0, 1, 2, 29, 30];
-const INNER_STATUSES: [usize; 14] = [0, 3, 4, 5, 6, 7, 8, 9, 10, 11, 12, 13, 14, 15];
+const INNER_STATUSES: [u32; 15] = [0, 3, 4, 5, 6, 21, 7, 8, 9, 10, 11, 12, 13, 14, 15];
+/// Two parts of source and mask: header and bits.
+const PAIRS: [(usize, usize, &str); 6] = [
+    (0, 1, "source header and bits"),
+    (2, 3, "mask header and bits"),
+    (0, 2, "both headers"),
+    (0, 3, "source header, mask bits"),
+    (1, 2, "source bits, mask header"),
+    (1, 3, "both bits"),
+];
 const DEPTHS: [i64; 6] = [1, 4, 8, 16, 24, 32];
 const KINDS: [&str; 3] = ["0x72", "0x4E", "0x51"];
 
@@ -39,7 +58,9 @@ pub struct Tally {
     /// Status 3 for a record over 16,777,216 bytes, 2 for a journal over 20,000,000 records.
     pub long_records: u64,
     pub long_journals: u64,
-    given: [[u64; 17]; 3],
+    given: [Given; 3],
+    /// Records that gave 21, by the pairs of parts that have a byte in common in them.
+    pairs: [u64; PAIRS.len()],
     /// Accepted plays by type, and by the source's depth; the last is no source.
     depths: [[u64; 7]; 3],
     /// Accepted plays by raster byte: 0x4E's foreground and background, 0x51's.
@@ -55,9 +76,9 @@ pub struct Tally {
     mirrored: [u64; 2],
     /// Runs of lists, by status.
     pub runs: u64,
-    ran: [u64; 5],
+    ran: Given,
     /// The calls that they made, by status.
-    inner: [u64; 17],
+    inner: Given,
     /// Lists that were refused, by what was done to them.
     damaged: [u64; DAMAGES.len()],
 }
@@ -72,7 +93,8 @@ impl Default for Tally {
             empty: 0,
             long_records: 0,
             long_journals: 0,
-            given: [[0; 17]; 3],
+            given: Default::default(),
+            pairs: [0; PAIRS.len()],
             depths: [[0; 7]; 3],
             rasters: [[0; 256]; 3],
             formats: [0; 2],
@@ -81,8 +103,8 @@ impl Default for Tally {
             orders: [0; 2],
             mirrored: [0; 2],
             runs: 0,
-            ran: [0; 5],
-            inner: [0; 17],
+            ran: Given::new(),
+            inner: Given::new(),
             damaged: [0; DAMAGES.len()],
         }
     }
@@ -91,22 +113,35 @@ impl Default for Tally {
 impl Tally {
     pub fn count(&mut self, call: Call, status: u32) {
         self.calls += 1;
-        self.given[call as usize][(status as usize).min(16)] += 1;
+        *self.given[call as usize].entry(status).or_insert(0) += 1;
     }
 
     /// How often this call gave this status.
-    pub fn given(&self, call: Call, status: usize) -> u64 {
-        self.given[call as usize][status]
+    pub fn given(&self, call: Call, status: u32) -> u64 {
+        times(&self.given[call as usize], status)
+    }
+
+    /// A record that gave 21.
+    pub fn shared(&mut self, record: &[u8]) {
+        let kind = Kind::of(bytes::get(record, TYPE) as i64).expect("passes 4");
+        let fixed = Fixed::read(record, kind);
+        // An absent picture's parts are empty.
+        let parts: Vec<_> = [fixed.source, fixed.mask]
+            .into_iter()
+            .flat_map(|picture| picture.map_or([0..0, 0..0], |named| named.parts()))
+            .collect();
+        for (n, (a, b, _)) in self.pairs.iter_mut().zip(PAIRS) {
+            let common = parts[a].start.max(parts[b].start)..parts[a].end.min(parts[b].end);
+            *n += u64::from(!common.is_empty());
+        }
     }
 
     /// A run of a list, with the answers of its calls.
     pub fn ran(&mut self, status: u32, damage: Option<Damage>, answers: &[u32]) {
         self.runs += 1;
-        if let Some(k) = RUN_STATUSES.iter().position(|&s| s == status) {
-            self.ran[k] += 1;
-        }
+        *self.ran.entry(status).or_insert(0) += 1;
         for answer in answers.chunks_exact(2) {
-            self.inner[(answer[0] as usize).min(16)] += 1;
+            *self.inner.entry(answer[0]).or_insert(0) += 1;
         }
         if let (29, Some(damage)) = (status, damage) {
             self.damaged[damage as usize] += 1;
@@ -159,6 +194,11 @@ impl Tally {
                 *x += y;
             }
         }
+        fn sum_given(a: &mut Given, b: &Given) {
+            for (&status, n) in b {
+                *a.entry(status).or_insert(0) += n;
+            }
+        }
         self.calls += other.calls;
         self.cases += other.cases;
         self.piles += other.piles;
@@ -166,7 +206,10 @@ impl Tally {
         self.empty += other.empty;
         self.long_records += other.long_records;
         self.long_journals += other.long_journals;
-        sum(self.given.as_flattened_mut(), other.given.as_flattened());
+        for (mine, others) in self.given.iter_mut().zip(&other.given) {
+            sum_given(mine, others);
+        }
+        sum(&mut self.pairs, &other.pairs);
         sum(self.depths.as_flattened_mut(), other.depths.as_flattened());
         sum(self.rasters.as_flattened_mut(), other.rasters.as_flattened());
         sum(&mut self.formats, &other.formats);
@@ -175,21 +218,42 @@ impl Tally {
         sum(&mut self.orders, &other.orders);
         sum(&mut self.mirrored, &other.mirrored);
         self.runs += other.runs;
-        sum(&mut self.ran, &other.ran);
-        sum(&mut self.inner, &other.inner);
+        sum_given(&mut self.ran, &other.ran);
+        sum_given(&mut self.inner, &other.inner);
         sum(&mut self.damaged, &other.damaged);
     }
 
+    /// Statuses that were given by a call, a run or a call of a run that cannot give them.
+    pub fn impossible(&self) -> Vec<String> {
+        let lists = CALLS.iter().map(|&call| (format!("{call:?}"), &self.given[call as usize], statuses(call)));
+        let runs = [
+            ("a run".to_string(), &self.ran, &RUN_STATUSES[..]),
+            ("a call of a run".to_string(), &self.inner, &INNER_STATUSES[..]),
+        ];
+        let mut impossible = Vec::new();
+        for (name, given, possible) in lists.chain(runs) {
+            for (status, n) in given.iter().filter(|(status, _)| !possible.contains(status)) {
+                impossible.push(format!("status {status} by {name} {n} times"));
+            }
+        }
+        impossible
+    }
+
     /// What was given fewer than `least` times: each status, by each call that can give it, and the two that need
-    /// long buffers.
-    pub fn rare(&self, least: u64) -> Vec<String> {
+    /// long buffers; and 21 with a byte shared by one pair of parts, fewer than `of_a_pair` times.
+    pub fn rare(&self, least: u64, of_a_pair: u64) -> Vec<String> {
         let mut rare = Vec::new();
         for call in CALLS {
-            for status in 0..=16 {
+            for &status in statuses(call) {
                 let n = self.given(call, status);
-                if possible(call, status) && n < least {
+                if n < least {
                     rare.push(format!("status {status} by {call:?} only {n} times"));
                 }
+            }
+        }
+        for ((_, _, name), &n) in PAIRS.iter().zip(&self.pairs) {
+            if n < of_a_pair {
+                rare.push(format!("status 21 with a byte shared by {name} only {n} times"));
             }
         }
         if self.long_records < least {
@@ -204,14 +268,16 @@ impl Tally {
     /// The same of the runs; each status of a call in them, and each damage, is asked for `inner` times.
     pub fn rare_runs(&self, least: u64, inner: u64) -> Vec<String> {
         let mut rare = Vec::new();
-        for (status, &n) in RUN_STATUSES.iter().zip(&self.ran) {
+        for status in RUN_STATUSES {
+            let n = times(&self.ran, status);
             if n < least {
                 rare.push(format!("status {status} by a run only {n} times"));
             }
         }
         for status in INNER_STATUSES {
-            if self.inner[status] < inner {
-                rare.push(format!("status {status} by a call of a run only {} times", self.inner[status]));
+            let n = times(&self.inner, status);
+            if n < inner {
+                rare.push(format!("status {status} by a call of a run only {n} times"));
             }
         }
         for (damage, &n) in DAMAGES.iter().zip(&self.damaged) {
@@ -231,10 +297,10 @@ fn named<N: fmt::Display>(row: impl Iterator<Item = (N, u64)>) -> String {
 impl fmt::Display for Tally {
     fn fmt(&self, f: &mut fmt::Formatter) -> fmt::Result {
         writeln!(f, "status      play      undo      read")?;
-        for status in 0..=16 {
+        for status in STATUSES {
             write!(f, "{status:6}")?;
             for call in CALLS {
-                if possible(call, status) {
+                if statuses(call).contains(&status) {
                     write!(f, "{:10}", self.given(call, status))?;
                 } else {
                     write!(f, "{:>10}", "-")?;
@@ -242,6 +308,10 @@ impl fmt::Display for Tally {
             }
             writeln!(f)?;
         }
+        for text in self.impossible() {
+            writeln!(f, "IMPOSSIBLE: {text}")?;
+        }
+        writeln!(f, "21 by what shares a byte  {}", named(PAIRS.iter().map(|pair| pair.2).zip(self.pairs)))?;
         writeln!(
             f,
             "{} of the 3s for records over 16,777,216 bytes, {} of the 2s for journals over 20,000,000 records",
@@ -270,10 +340,35 @@ impl fmt::Display for Tally {
         for (name, row) in ["red", "green", "blue", "alpha"].iter().zip(&self.widths) {
             writeln!(f, "  {name} masks by width  {}", named(row.iter().copied().enumerate()))?;
         }
-        writeln!(f, "runs by status  {}", named(RUN_STATUSES.into_iter().zip(self.ran)))?;
-        writeln!(f, "  their calls by status  {}", named(INNER_STATUSES.into_iter().map(|s| (s, self.inner[s]))))?;
+        writeln!(f, "runs by status  {}", named(RUN_STATUSES.into_iter().map(|s| (s, times(&self.ran, s)))))?;
+        let inner = INNER_STATUSES.into_iter().map(|s| (s, times(&self.inner, s)));
+        writeln!(f, "  their calls by status  {}", named(inner))?;
         let damages = DAMAGES.iter().map(|damage| format!("{damage:?}"));
         writeln!(f, "  29 by the list's damage  {}", named(damages.zip(self.damaged)))?;
         Ok(())
+    }
+}
+
+#[cfg(test)]
+mod tests {
+    use super::*;
+
+    #[test]
+    fn no_status_is_booked_under_another() {
+        let mut one = Tally::default();
+        one.count(Call::Play, 21);
+        one.count(Call::Undo, 16);
+        one.count(Call::Undo, 21);
+        one.ran(17, None, &[21, 0, 16, 0]);
+        let mut tally = Tally::default();
+        tally.add(&one);
+        tally.add(&one);
+        let given = [(Call::Play, 21), (Call::Play, 16), (Call::Undo, 16), (Call::Undo, 21)];
+        assert_eq!(given.map(|(call, status)| tally.given(call, status)), [2, 0, 2, 2]);
+        let impossible =
+            ["status 21 by Undo 2 times", "status 17 by a run 2 times", "status 16 by a call of a run 2 times"];
+        assert_eq!(tally.impossible(), impossible);
+        assert!(impossible.iter().all(|text| tally.to_string().contains(text)));
+        assert!(tally.rare(3, 0).contains(&"status 21 by Play only 2 times".to_string()));
     }
 }

@@ -16,6 +16,8 @@ pub const BAD_LENGTH: u32 = 3;
 pub const BAD_TYPE: u32 = 4;
 pub const BAD_SIZE: u32 = 5;
 pub const BAD_PART: u32 = 6;
+/// Judged between 6 and 7.
+pub const SHARED_PARTS: u32 = 21;
 pub const BAD_TRANSFORM: u32 = 7;
 pub const BAD_HEADER: u32 = 8;
 pub const BAD_MASKS: u32 = 9;

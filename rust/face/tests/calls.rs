@@ -90,6 +90,9 @@ fn readings() {
     assert_eq!((status, named.map(|k| numbers[k])), (OK, [80, 44, 124, 4, 2, 1, 8, 0, 0]));
     assert_eq!(palette(&record, 0)[..2], [0x332211, 0]);
     assert_eq!(palette(&record, 1), [0; 256]);
+    // The header part's 45th byte is the bits' first.
+    record[52] = 45;
+    assert_eq!(read(&record, 0), (SHARED_PARTS, absent));
     record.pop();
     assert_eq!(read(&record, 0), (BAD_SIZE, absent));
 }

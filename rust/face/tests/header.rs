@@ -28,6 +28,6 @@ fn of_constants() -> BTreeMap<String, u64> {
 #[test]
 fn constants_are_the_headers() {
     let header = of_header();
-    assert_eq!(header.len(), 4 + 19 + 14, "{header:?}");
+    assert_eq!(header.len(), 4 + 20 + 14, "{header:?}");
     assert_eq!(of_constants(), header);
 }

@@ -10,7 +10,7 @@ pub struct Part {
     pub length: u64,
 }
 
-/// A picture that passed refusals 6 to 10.
+/// A picture that passed the refusals ordered from 6 to 10.
 #[derive(Clone, Debug)]
 pub struct Dib {
     /// "all cbBmi bytes where they stand"

@@ -2,7 +2,7 @@
 //!
 //! It is slow and plain: one pixel at a time, wide integers, no tables.
 //! Words in quotation marks are document 01's, unless another is named;
-//! A1 to A41 are the entries of the open points.
+//! A1 to A41, A49 and A50 are the entries of the open points.
 //! The layout of lists is the C header's.
 //!
 //! The modules stand in layers: each uses only those of the groups above its own.

@@ -62,7 +62,7 @@ impl Pile {
 
     pub fn play(&mut self, record: &[u8], clip: Clip, brush: u32) -> Answer {
         // "if a refusal ordered from 3 to 13 applies to its record, the answer
-        // is the first of these and 0 pixels"
+        // is the first of these and 0 pixels"; 21 is one of these (A50).
         if let Err(refusal) = check(record) {
             return Answer::refused(refusal);
         }

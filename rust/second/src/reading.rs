@@ -45,7 +45,7 @@ fn empty(status: u32) -> Reading {
 
 /// "A reading is asked for source or mask; if that one is absent, or the type
 /// has no mask, it answers 0 with the rest as in a refused reading."
-/// "Reading alone checks 3 to 13."
+/// "Reading alone checks 3 to 13", and 21 in its place (document 02, item 5).
 pub fn reading(record: &[u8], mask: bool) -> Reading {
     let sound = match check(record) {
         Err(refusal) => return empty(refusal),

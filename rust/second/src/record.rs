@@ -3,6 +3,7 @@
 use crate::dib::{Dib, Part};
 use crate::fields::{is_identity, signed, unsigned};
 use crate::region::{covered, Bounds, Span};
+use std::ops::Range;
 
 #[derive(Clone, Copy, Debug, PartialEq, Eq)]
 pub enum Kind {
@@ -68,6 +69,12 @@ impl Named {
 
     pub fn header_place(&self) -> Part {
         Part { offset: self.header_at as u64, length: self.header_size as u64 }
+    }
+
+    /// Header part and bits part, where they begin and end: all cbBmi and
+    /// cbBits bytes.
+    pub fn parts(&self) -> [Range<i64>; 2] {
+        [self.header_at..self.header_at + self.header_size, self.bits_at..self.bits_at + self.bits_size]
     }
 }
 
@@ -219,7 +226,7 @@ fn operation(record: &[u8], kind: Kind) -> Operation {
     }
 }
 
-/// A record that no refusal from 3 to 13 meets.
+/// A record that no refusal ordered from 3 to 13, 21 among them, meets.
 #[derive(Clone, Debug)]
 pub struct Sound {
     pub fixed: Fixed,

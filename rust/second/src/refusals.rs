@@ -1,13 +1,16 @@
-//! The refusals 3 to 13: one function for each number, in their order.
+//! The refusals of a record, 3 to 6, 21 and 7 to 13: one function for each
+//! number, in this order.
 
 use crate::arithmetic::without_sign;
 use crate::dib::{self, Dib};
 use crate::fields::unsigned;
 use crate::raster::needs_source;
 use crate::record::{Fixed, Kind, Named, Operation, Sound};
+use std::ops::Range;
 
-/// "The lowest number that applies is given": one number after the other, and
-/// each over both pictures (A9).
+/// The first that applies is given.  Document 02, item 5: "document 01's order
+/// becomes 1 to 6, 21, 7 onwards".  One number after the other, and each over
+/// both pictures (A9).
 pub fn check(record: &[u8]) -> Result<Sound, u32> {
     if bad_length(record) {
         return Err(3);
@@ -24,6 +27,9 @@ pub fn check(record: &[u8]) -> Result<Sound, u32> {
     let present: Vec<Named> = fixed.source.into_iter().chain(fixed.mask).collect();
     if bad_part(&fixed, &present) {
         return Err(6);
+    }
+    if shared_parts(&present) {
+        return Err(21);
     }
     if bad_transform_or_usage(&fixed, &present) {
         return Err(7);
@@ -51,7 +57,7 @@ pub fn check(record: &[u8]) -> Result<Sound, u32> {
     Ok(Sound { fixed, source, mask })
 }
 
-/// The record's refusal from 3 to 13, or 0.
+/// The record's refusal, of those ordered from 3 to 13, or 0.
 pub fn status(record: &[u8]) -> u32 {
     match check(record) {
         Err(refusal) => refusal,
@@ -81,6 +87,20 @@ fn bad_size(record: &[u8], kind: Kind) -> bool {
 fn bad_part(fixed: &Fixed, present: &[Named]) -> bool {
     let bad = |offset: i64, length: i64| offset < fixed.kind.fixed_end() || offset + length > fixed.size;
     present.iter().any(|n| bad(n.header_at, n.header_size) || bad(n.bits_at, n.bits_size))
+}
+
+/// 21, document 02, item 5: "Any two parts of the present pictures that have a
+/// byte in common are now refused."  Whole parts, also past what is needed, of
+/// one picture or of two (A49).
+fn shared_parts(present: &[Named]) -> bool {
+    let parts: Vec<Range<i64>> = present.iter().flat_map(Named::parts).collect();
+    (1..parts.len()).any(|k| parts[..k].iter().any(|before| have_common_byte(before, &parts[k])))
+}
+
+/// What two stretches have in common goes from the later start to the earlier
+/// end; an empty one has no byte.
+fn have_common_byte(a: &Range<i64>, b: &Range<i64>) -> bool {
+    !a.is_empty() && !b.is_empty() && a.start.max(b.start) < a.end.min(b.end)
 }
 
 /// 7: "XformSrc not the identity, or a present picture's usage not 0".

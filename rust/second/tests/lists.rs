@@ -84,6 +84,32 @@ fn refused_calls_and_the_ones_behind_them() {
     assert_eq!(answers, [15, 0, 3, 0, 3, 0, 0, 2, 14, 0]);
 }
 
+/// 0x51 of 124 bytes with a source of one pixel: header at 80 to 119, and four
+/// bytes of bits at this offset.
+fn copy(bits_at: u32) -> Vec<u8> {
+    let fixed = [0x51, 124, 0, 0, 1, 0, 0, 0, 0, 0, 1, 1, 80, 40, bits_at, 4, 0, 0x00CC_0020, 1, 1];
+    let header = [40, 1, 1, 1 | 24 << 16, 0, 0, 0, 0, 0, 0];
+    [words(&[1, 0, 0, 2, 1, 0, 0, 124]), words(&fixed), words(&header), vec![3, 2, 1, 0]].concat()
+}
+
+#[test]
+fn shared_parts_among_other_calls() {
+    // 21 in its place among those ordered from 3 to 13 (A50): sheet and room
+    // stay, and the next play draws.  From 120 on the bits stand by themselves.
+    let calls = [copy(119), copy(120), copy(80), whole(), copy(119), undo(), undo(), copy(119), undo()];
+    let (ran, surface, journal, answers) = left(&list(9, &calls), 5, 18);
+    assert_eq!(ran, Ran { status: 0, calls: 9, used: 0 });
+    assert_eq!(surface, START);
+    assert_eq!(answers, [21, 0, 0, 1, 21, 0, 0, 2, 21, 0, 0, 2, 0, 1, 21, 0, 15, 0]);
+    // Red 1, green 2, blue 3 was drawn on the first pixel, and journaled so.
+    let wanted =
+        [[0, 0, 0xFF00_0000], [u32::MAX, 1, 0x51], [0, 0, 0xFF01_0203], [1, 0, 0xFF00_00FF], [u32::MAX, 2, 0x51]];
+    assert_eq!(journal, wanted.concat());
+    // Three records are used up by the first play: 14, and 21 before it.
+    let (_, _, _, answers) = left(&list(3, &[whole(), copy(120), copy(119)]), 3, 6);
+    assert_eq!(answers, [0, 2, 14, 0, 21, 0]);
+}
+
 #[test]
 fn no_calls() {
     let ran = Ran { status: 0, calls: 0, used: 0 };

@@ -99,7 +99,7 @@ fn copy_or_keep() {
     let mask = Picture { header: Header::new(40, 2, 1, 1), table: vec![0, 0], pixels: vec![0x80, 0, 0, 0] };
     let r = Record::new(MASKBLT, [0, 0, 2, 1], 0xAACC_0020).from([0, 0, 2, 1], source).masked([0, 0], mask).bytes();
     let mut sheet = [0xFF77_7777u32, 0x8088_8888];
-    let answer = play(&mut sheet, 2, 1, &mut vec![0; 3 * RECORD], &mut 0, &r, ALL, 0x112233);
+    let answer = play(&mut sheet, 2, 1, &mut [0; 3 * RECORD], &mut 0, &r, ALL, 0x112233);
     assert_eq!(answer, Answer { status: 0, pixels: 2 });
     assert_eq!(sheet, [0xFF03_0201, 0x8088_8888]);
 }

@@ -68,7 +68,8 @@ fn record(r: &mut Random) -> Vec<u8> {
     let source = if r.below(5) > 0 { Some(picture(r, bits, w, h)) } else { None };
     let mask = if kind == MASKBLT {
         let (mw, mh) = (r.between(1, 9), r.between(1, 9));
-        Some(picture(r, 1, mw, mh))
+        let depth = if r.below(40) == 0 { 4 } else { 1 };
+        Some(picture(r, depth, mw, mh))
     } else {
         None
     };
@@ -85,8 +86,15 @@ fn record(r: &mut Random) -> Vec<u8> {
     made.bytes()
 }
 
-/// A few bytes of the record spoiled.
+/// A few bytes of the record spoiled, or a part's offset, so that it stands on
+/// another.
 fn spoiled(r: &mut Random, mut b: Vec<u8>) -> Vec<u8> {
+    if r.below(8) == 0 {
+        let offsets = if b[0] as u32 == STRETCHDIBITS { [48, 56] } else { [84, 92] };
+        let at = offsets[r.below(2) as usize];
+        let n = b[at] as i32 + r.between(-60, 60);
+        b[at] = n.clamp(0, 255) as u8;
+    }
     for _ in 0..r.below(4) {
         let at = r.below(b.len() as u32) as usize;
         b[at] = match r.below(3) {
@@ -149,7 +157,7 @@ fn lists_follow_the_pile() {
         assert_eq!(sheet, start);
     }
     println!("{seen:?}");
-    for wanted in [0, 14, 15] {
+    for wanted in [0, 14, 15, 21] {
         assert!(seen.contains_key(&wanted));
     }
 }
@@ -182,7 +190,7 @@ fn any_record_ends() {
         *seen.entry(number).or_insert(0) += 1;
     }
     println!("{seen:?}");
-    for wanted in (3..=13).chain([0]) {
+    for wanted in (3..=13).chain([0, 21]) {
         assert!(seen.contains_key(&wanted), "{wanted} not seen");
     }
 }

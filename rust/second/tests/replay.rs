@@ -61,7 +61,7 @@ fn made_script() {
     assert!(bytes.len() <= 120 * 1024);
     let seen = opcodes(&bytes);
     let calls: u32 = seen.values().sum();
-    assert!((250..=400).contains(&calls), "{calls}");
+    assert!((250..=450).contains(&calls), "{calls}");
     for op in 0..=6 {
         assert!(seen.contains_key(&op), "opcode {op}");
     }
@@ -88,7 +88,7 @@ fn made_script() {
         }
     }
     println!("{seen:?} {statuses:?}");
-    for n in 0..=16 {
+    for n in (0..=16).chain([21]) {
         assert!(statuses.contains_key(&n), "status {n}");
     }
 }

@@ -20,6 +20,7 @@ pub fn status(number: u32) -> &'static str {
         14 => "the journal has no room for this play",
         15 => "the journal holds no play",
         16 => "the journal's last record does not close a play, names too many, or one of those is off the surface",
+        21 => "two of the record's parts share bytes",
         _ => "this status is not known to the tool",
     }
 }
@@ -64,8 +65,8 @@ mod tests {
 
     #[test]
     fn each_status_has_its_own_words() {
-        let all: HashSet<&str> = (0..=17).map(status).collect();
-        assert_eq!(all.len(), 18);
+        let all: HashSet<&str> = (0..=17).chain([21]).map(status).collect();
+        assert_eq!(all.len(), 19);
         assert_eq!(numbered(15), "status 15: the journal holds no play");
         assert_eq!(status(17), status(u32::MAX));
     }

@@ -77,6 +77,12 @@ fn info_lists_bitmap_records() {
     let out = folder.run("info refused.emf").expect(2).out;
     assert!(out.contains("status 11: the blend's operation"));
     assert!(out.contains("3 bitmap records, 1 would be refused; 0 other records skipped"));
+    // The bits begin with the header's last byte.
+    let mut shared = stretch_record([0, 0, 4, 4], 0xCC);
+    shared[56] -= 1;
+    folder.put("shared.emf", &emf(&[shared]));
+    let out = folder.run("info shared.emf").expect(2).out;
+    assert!(out.contains("status 21: two of the record's parts share bytes\n"), "{out}");
     folder.put("short.emf", &emf(&[vec![0x72, 0, 0, 0, 8, 0, 0, 0]]));
     assert!(folder.run("info short.emf").expect(2).out.contains("Size 8, no Bounds; status 5"));
 }

@@ -361,6 +361,9 @@ impl Bench {
             // It was all zero before.
             zero(&self.surface)?;
         }
+        self.record.lend(side, &largest::shared(largest::mask_blit(seed)));
+        let got = self.call(SIDE, SIDE, Some((all, 7)), true);
+        expect("a byte in two parts", got, 21, 0)?;
         let mut list = List::default();
         list.play([0, 0, SIDE as i32, SIDE as i32], 7, 0, &largest::mask_blit(seed), 0);
         list.undo();

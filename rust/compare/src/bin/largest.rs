@@ -17,8 +17,9 @@ Plays the longest records (16,777,216 bytes, one of each type) onto the largest
 surface (4,096 by 4,096) with the longest journal (20,000,000 records), undoes
 them, and compares with the second player: answers, the whole surface, the whole
 journal, readings. A list of two such records is run by both as well. A record of
-4 bytes more and a journal of one record more must be refused. Takes about a
-quarter of a minute, nearly all of it the second player's, and 1.2 GB of memory.
+4 bytes more, one with a byte in two parts, and a journal of one record more must
+be refused. Takes about a quarter of a minute, nearly all of it the second
+player's, and 1.2 GB of memory.
 
   --seed S   other bytes in records and surface (1 if not said)
 ";
@@ -174,6 +175,10 @@ fn all(seed: u64) -> Result<(), String> {
     both.play("0x4E", &record, ALL, full)?;
     both.undo(full)?;
     same_all("surface after the undo", &both.ours.surface, &start)?;
+    let shared = largest::shared(record.clone());
+    read(&shared)?;
+    both.play("0x4E with a byte in two parts", &shared, ALL, refused(21))?;
+    drop(shared);
 
     // A list of two longest records: the first undone, and one undo too many; the second in the last rows.
     let mut list = List::default();

@@ -18,7 +18,8 @@ are over (10 if not said). The round in hand is finished.
                 from the clock if not said)
 
 Every round prints its seed, so that differ --seed S --one K can show a case
-again. At the first difference it ends with 1.
+again. At the first difference it ends with 1, and at the end if a call gave a
+status that it cannot give.
 ";
 
 const CALLS_A_RUN: u64 = 20;
@@ -57,5 +58,10 @@ fn main() -> ExitCode {
         all.cases,
         start.elapsed().as_secs_f64()
     );
-    ExitCode::SUCCESS
+    // They stand in the table.
+    if all.impossible().is_empty() {
+        ExitCode::SUCCESS
+    } else {
+        ExitCode::FAILURE
+    }
 }

@@ -12,27 +12,44 @@ use records::{Parts, ALPHABLEND, MASKBLT, STRETCHDIBITS};
 /// Where the length of a part stands, counted from a picture's four fields.
 const HEADER_LEN: usize = 4;
 const BITS_LEN: usize = 12;
+/// Where it stands, counted from the part's own offset field.
+const LEN: usize = 4;
+
+/// The statuses that a record can have, in the order in which they are judged.
+const STATUSES: [u32; 12] = [3, 4, 5, 6, 21, 7, 8, 9, 10, 11, 12, 13];
 
 /// A sound or a damaged record; `sound_percent` of a hundred are sound.
 pub fn any(r: &mut Random, aim: Aim, sound_percent: u64) -> Vec<u8> {
     if r.percent(sound_percent) {
         return sound(r, aim, Wish::default()).bytes;
     }
-    match r.below(22) {
-        0..=10 => {
-            let status = 3 + r.below(11) as u32;
+    match r.below(46) {
+        0..=25 => {
+            let status = target_status(r);
             aimed(r, aim, status)
         }
-        11..=14 => {
+        26..=33 => {
             let mut record = sound(r, aim, Wish::default());
             boundary(r, &mut record);
             record.bytes
         }
-        15..=16 => several(r, aim),
-        17..=18 => crossed(r, aim),
-        19 => single_bytes(r, aim),
-        20 => other_length(r, aim),
+        34..=37 => several(r, aim),
+        38..=41 => crossed(r, aim),
+        42..=43 => single_bytes(r, aim),
+        44 => other_length(r, aim),
         _ => random_bytes(r),
+    }
+}
+
+/// What damage is aimed at. 3 to 5 come by other damage as well, and 21 has six pairs of parts to do.
+fn target_status(r: &mut Random) -> u32 {
+    match r.below(52) {
+        0..=5 => r.pick(&[3, 4, 5]),
+        6..=10 => 6,
+        11..=19 => 21,
+        20..=34 => r.pick(&[7, 8, 9]),
+        35..=38 => 10,
+        _ => r.pick(&[11, 12, 13]),
     }
 }
 
@@ -44,7 +61,7 @@ fn several(r: &mut Random, aim: Aim) -> Vec<u8> {
         if r.percent(25) {
             boundary(r, &mut record);
         } else {
-            let status = 3 + r.below(11) as u32;
+            let status = r.pick(&STATUSES);
             spoil(r, &mut record, status);
         }
     }
@@ -103,6 +120,11 @@ fn wish_for(r: &mut Random, status: u32) -> Wish {
         9 => {
             wish.bitfields = true;
         }
+        21 => {
+            // A mask blit of two pictures has six pairs of parts, the others one.
+            wish.kind = Some(r.pick(&[ALPHABLEND, MASKBLT, MASKBLT, MASKBLT, MASKBLT, STRETCHDIBITS]));
+            wish.source = r.percent(90);
+        }
         11 => {
             wish.kind = Some(r.pick(&[ALPHABLEND, ALPHABLEND, MASKBLT, STRETCHDIBITS]));
             wish.format_1 = r.percent(50);
@@ -126,7 +148,7 @@ fn wish_for(r: &mut Random, status: u32) -> Wish {
     wish
 }
 
-/// A record with one fault that mostly gives this status (3 to 13), or comes very near it.
+/// A record with one fault that mostly gives this status, or comes very near it.
 fn aimed(r: &mut Random, aim: Aim, status: u32) -> Vec<u8> {
     let wish = wish_for(r, status);
     let mut record = sound(r, aim, wish);
@@ -137,17 +159,18 @@ fn aimed(r: &mut Random, aim: Aim, status: u32) -> Vec<u8> {
     record.bytes
 }
 
-/// Source and mask with a fault each: the lower number must win, whichever picture has it.
+/// Source and mask with a fault each: the first in the order must win, whichever picture has it.
 fn crossed(r: &mut Random, aim: Aim) -> Vec<u8> {
     let mask_depth = Some(r.pick(&[1, 8, 16, 16, 32, 32]));
     let wish = Wish { kind: Some(MASKBLT), bitfields: true, mask_depth, ..Wish::default() };
     let mut record = sound(r, aim, wish);
+    const FAULTS: [u32; 15] = [6, 6, 21, 7, 7, 8, 8, 9, 9, 9, 9, 10, 10, 10, 10];
     let (source, mask) = (record.source, record.mask);
     (record.source, record.mask) = (source, None);
-    let status = r.pick(&[6, 7, 8, 9, 9, 10, 10]);
+    let status = r.pick(&FAULTS);
     spoil(r, &mut record, status);
     (record.source, record.mask) = (None, mask);
-    let status = r.pick(&[6, 7, 8, 9, 9, 10, 10]);
+    let status = r.pick(&FAULTS);
     spoil(r, &mut record, status);
     record.bytes
 }
@@ -160,6 +183,57 @@ fn present(r: &mut Random, record: &Record) -> Option<(Parts, usize)> {
         (Some(s), Some(m)) => Some(if r.percent(60) { s } else { m }),
         (s, m) => s.or(m),
     }
+}
+
+/// The present pictures' parts, by the places of their offset fields.
+fn parts(record: &Record) -> Vec<usize> {
+    let source = record.source.map(|_| places(record.kind).four);
+    let mask = record.mask.map(|_| MASK_FOUR);
+    source.into_iter().chain(mask).flat_map(|four| [four, four + 8]).collect()
+}
+
+/// Where a part stands, and its length.
+fn part(bytes: &[u8], field: usize) -> (usize, usize) {
+    (get(bytes, field) as usize, get(bytes, field + LEN) as usize)
+}
+
+/// The part begins there from now on.
+fn begin(record: &mut Record, field: usize, to: usize) {
+    set(&mut record.bytes, field, to as u32);
+    let source = record.source.as_mut().map(|p| (p, places(record.kind).four));
+    let mask = record.mask.as_mut().map(|p| (p, MASK_FOUR));
+    for (p, four) in source.into_iter().chain(mask) {
+        if field == four {
+            p.header_at = to;
+        } else if field == four + 8 {
+            p.bits_at = to;
+        }
+    }
+}
+
+/// The same, and a header takes its bytes along. For bits those that stand there will do.
+fn put(record: &mut Record, field: usize, to: usize) {
+    let (from, length) = part(&record.bytes, field);
+    if field == MASK_FOUR || field == places(record.kind).four {
+        record.bytes.copy_within(from..from + length, to);
+    }
+    begin(record, field, to);
+}
+
+/// The part stands behind all others from now on, with so many bytes before it and so many behind it up to the record's
+/// end. False where damage before this one left no such part.
+fn stand_apart(r: &mut Random, record: &mut Record, field: usize, before: usize, behind: usize) -> bool {
+    let size = record.bytes.len();
+    let (at, length) = part(&record.bytes, field);
+    if size < places(record.kind).fixed || at + length > size {
+        return false;
+    }
+    let end = (size + before + length + behind).div_ceil(4) * 4;
+    let more = r.bytes(end - size);
+    record.bytes.extend(more);
+    set_size(&mut record.bytes);
+    put(record, field, end - behind - length);
+    true
 }
 
 /// One fault of the kind that this status is about.
@@ -179,6 +253,7 @@ fn spoil(r: &mut Random, record: &mut Record, status: u32) {
         }
         5 => spoil_size(r, record),
         6 => spoil_part(r, record),
+        21 => share(r, record),
         7 => spoil_transform(r, record),
         8 => spoil_header(r, record),
         9 => spoil_masks(r, record),
@@ -233,17 +308,23 @@ fn spoil_size(r: &mut Random, record: &mut Record) {
 
 fn spoil_part(r: &mut Random, record: &mut Record) {
     let fixed = places(record.kind).fixed as u32;
-    let length = record.bytes.len() as u32;
     let Some((_, four)) = present(r, record) else {
         // An absent picture becomes present by one field.
         let four = if record.kind == MASKBLT && r.percent(50) { MASK_FOUR } else { places(record.kind).four };
+        let length = record.bytes.len() as u32;
         let n = r.pick(&[1, 40, fixed, length, u32::MAX]);
         set(&mut record.bytes, four + 4 * r.below(4) as usize, n);
         return;
     };
     let at = four + 8 * r.below(2) as usize;
-    let (offset, size) = (get(&record.bytes, at), get(&record.bytes, at + 4));
-    match r.below(8) {
+    let form = r.below(8);
+    if matches!(form, 2..=4) && r.percent(50) {
+        // At the record's end nothing but 6 can be wrong; elsewhere 6 must come before 21.
+        stand_apart(r, record, at, 0, 0);
+    }
+    let length = record.bytes.len() as u32;
+    let (offset, size) = (get(&record.bytes, at), get(&record.bytes, at + LEN));
+    match form {
         0 => {
             let n = r.pick_or(&[0, 1, 8, fixed - 1, fixed - 4, fixed], |r| r.below(fixed as u64) as u32);
             set(&mut record.bytes, at, n);
@@ -276,6 +357,97 @@ fn spoil_part(r: &mut Random, record: &mut Record) {
             set(&mut record.bytes, at + 4, n);
         }
     }
+}
+
+/// Two parts with a byte in common, or with just none.
+fn share(r: &mut Random, record: &mut Record) {
+    let four = places(record.kind).four;
+    let two = record.source.is_some() && record.mask.is_some();
+    let [one, other] = if two && r.percent(80) {
+        [four, MASK_FOUR].map(|four| four + 8 * r.below(2) as usize)
+    } else {
+        match present(r, record) {
+            Some((_, four)) => [four, four + 8],
+            None => return,
+        }
+    };
+    let [one, other] = if r.percent(50) { [one, other] } else { [other, one] };
+    let size = record.bytes.len();
+    let (at, length) = part(&record.bytes, other);
+    let lost = |field| part(&record.bytes, field).0 + part(&record.bytes, field).1 > size;
+    if size < places(record.kind).fixed || lost(one) || lost(other) {
+        return;
+    }
+    match r.below(12) {
+        0..=2 => lengthen(r, record),
+        3..=7 => meet(r, record, one, other),
+        // One part for two.
+        8 => {
+            begin(record, one, at);
+            set(&mut record.bytes, one + LEN, length as u32);
+        }
+        // One picture for two.
+        9 if two && r.percent(50) => {
+            record.bytes.copy_within(four..four + 16, MASK_FOUR);
+            record.mask = record.source;
+        }
+        9 if two => {
+            record.bytes.copy_within(MASK_FOUR..MASK_FOUR + 16, four);
+            record.source = record.mask;
+        }
+        // An empty part in another, or at its ends.
+        10 => {
+            let inside = at + r.below(length as u64 + 1) as usize;
+            set(&mut record.bytes, one, r.pick(&[at, at + length, inside, inside, inside]) as u32);
+            set(&mut record.bytes, one + LEN, 0);
+        }
+        // A part anywhere behind the fixed part.
+        _ => {
+            let fixed = places(record.kind).fixed;
+            let last = (size - fixed).saturating_sub(part(&record.bytes, one).1);
+            put(record, one, fixed + r.below(last as u64 + 1) as usize);
+        }
+    }
+}
+
+/// A part goes on up to the next one, or into it: what it needs is its own still. Or the next one begins so early.
+fn lengthen(r: &mut Random, record: &mut Record) {
+    let mut all = parts(record);
+    all.sort_by_key(|&field| part(&record.bytes, field));
+    let k = r.below(all.len() as u64 - 1) as usize;
+    let ((at, length), (next_at, next_length)) = (part(&record.bytes, all[k]), part(&record.bytes, all[k + 1]));
+    let common = |r: &mut Random, most: usize| r.pick_or(&[0, 1, 1, most], |r| r.below(most as u64 + 1) as usize);
+    if r.percent(70) {
+        let into = common(r, next_length);
+        set(&mut record.bytes, all[k] + LEN, (next_at + into - at) as u32);
+    } else if next_at >= at + length {
+        let begin = at + length - common(r, length);
+        set(&mut record.bytes, all[k + 1], begin as u32);
+        set(&mut record.bytes, all[k + 1] + LEN, (next_at + next_length - begin) as u32);
+    }
+}
+
+/// Two parts behind all others that have one byte in common, at either end, or none, or more.
+fn meet(r: &mut Random, record: &mut Record, one: usize, other: usize) {
+    let (_, length) = part(&record.bytes, one);
+    let (_, other_length) = part(&record.bytes, other);
+    if length == 0 || other_length == 0 || !stand_apart(r, record, other, length, length) {
+        return;
+    }
+    let (at, end) = (part(&record.bytes, other).0, part(&record.bytes, other).0 + other_length);
+    let to = match r.below(10) {
+        // One byte.
+        0..=1 => at + 1 - length,
+        2..=3 => end - 1,
+        // They touch.
+        4 => at - length,
+        5 => end,
+        // One stands in the other, at its begin or its end.
+        6 => at,
+        7 => end - length,
+        _ => at + 1 - length + r.below((length + other_length - 1) as u64) as usize,
+    };
+    put(record, one, to);
 }
 
 fn spoil_transform(r: &mut Random, record: &mut Record) {
@@ -342,13 +514,14 @@ fn spoil_header(r: &mut Random, record: &mut Record) {
             let n = r.pick(&[0, 1, 3, 4, 12, 16, 36, 39, 40, 51, 52, 55, 56, 107, 108]);
             set(bytes, four + HEADER_LEN, n);
         }
-        // Around 256 colours in a part that is long enough for more.
+        // Around 256 colours in a part that is long enough for more, and stands apart.
         _ => {
-            let length = bytes.len() + 1_200;
-            bytes.resize(length, 0);
-            set(bytes, SIZE, length as u32);
-            set(bytes, four + HEADER_LEN, (length - at) as u32);
-            set(bytes, at + header::USED, r.pick(&[2, 3, 16, 17, 255, 256, 257, 258, 270]));
+            const COLOURS: usize = 1_200;
+            if stand_apart(r, record, four, 0, COLOURS) {
+                let (at, length) = part(&record.bytes, four);
+                set(&mut record.bytes, four + HEADER_LEN, (length + COLOURS) as u32);
+                set(&mut record.bytes, at + header::USED, r.pick(&[2, 3, 16, 17, 255, 256, 257, 258, 270]));
+            }
         }
     }
 }

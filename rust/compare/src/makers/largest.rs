@@ -67,6 +67,14 @@ pub fn mask_blit(seed: u64) -> Vec<u8> {
     bytes
 }
 
+/// The mask blit with a byte in two parts: the source's bits go on into the mask's, by one more than they need.
+pub fn shared(mut mask_blit: Vec<u8>) -> Vec<u8> {
+    let length = places(MASKBLT).four + 12;
+    let more = bytes::get(&mask_blit, length) + 1;
+    bytes::set(&mut mask_blit, length, more);
+    mask_blit
+}
+
 /// The same record with four bytes more and Size to match: too long.
 pub fn too_long(mut record: Vec<u8>) -> Vec<u8> {
     record.extend_from_slice(&[0; 4]);

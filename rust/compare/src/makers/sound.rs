@@ -11,7 +11,9 @@ use records::{Fixed, Parts, ALPHABLEND, MASKBLT, STRETCHDIBITS};
 #[derive(Clone, Copy, Debug, Default)]
 pub struct Wish {
     pub kind: Option<u32>,
-    /// The source is there and has BI_BITFIELDS.
+    /// The source is there.
+    pub source: bool,
+    /// And it has BI_BITFIELDS.
     pub bitfields: bool,
     /// Format 1, whatever the source is.
     pub format_1: bool,
@@ -44,10 +46,10 @@ pub fn raster(r: &mut Random) -> u8 {
     }
 }
 
-/// A record that no status from 3 to 13 meets, unless the wish brings one.
+/// A record that neither 3 to 13 nor 21 meets, unless the wish brings one.
 pub fn sound(r: &mut Random, aim: Aim, wish: Wish) -> Record {
     let kind = wish.kind.unwrap_or_else(|| r.pick(&[ALPHABLEND, MASKBLT, STRETCHDIBITS]));
-    let absent = kind != ALPHABLEND && !wish.bitfields && r.percent(22);
+    let absent = kind != ALPHABLEND && !wish.source && !wish.bitfields && r.percent(22);
     let format = u8::from(kind == ALPHABLEND && (wish.format_1 || r.percent(50)));
     let alpha = format == 1 && !wish.format_1;
     let depth = if alpha {
@@ -68,9 +70,8 @@ pub fn sound(r: &mut Random, aim: Aim, wish: Wish) -> Record {
         let (rectangle, source) = source(r, kind, &target, form);
         (rectangle, Some(source))
     };
-    let (mask, shared) = if kind != MASKBLT || wish.no_mask { (None, false) } else { mask(r, wish, source) };
-    let laid = laid_out(r, places(kind).fixed, source, mask, shared);
-    let Laid { mut bytes, source, mask } = laid;
+    let mask = if kind != MASKBLT || wish.no_mask { None } else { Some(mask(r, wish)) };
+    let Laid { mut bytes, source, mask } = laid_out(r, places(kind).fixed, source, mask);
 
     let mut fixed = Fixed::new(kind, &mut bytes);
     fixed.bounds(bounds).target(target.rectangle()).operation(operation).source(rectangle);
@@ -121,16 +122,10 @@ fn source(r: &mut Random, kind: u32, target: &Target, form: Form) -> ([i32; 4], 
     (rectangle.map(|n| n as i32), picture(r, form, size[0], size[1]))
 }
 
-/// A mask; now and then the source's own header serves both, which is said beside it.
-fn mask(r: &mut Random, wish: Wish, source: Option<Picture>) -> (Option<Picture>, bool) {
-    if let (Some(s), None) = (source, wish.mask_depth) {
-        if s.header.bits == 1 && r.percent(15) {
-            return (source, true);
-        }
-    }
+fn mask(r: &mut Random, wish: Wish) -> Picture {
     let [width, rows] = sides(r);
     let form = Form { depth: wish.mask_depth.unwrap_or(1), bitfields: false, alpha: false };
-    (Some(picture(r, form, width, rows)), false)
+    picture(r, form, width, rows)
 }
 
 /// XformSrc, with zeros of both signs.

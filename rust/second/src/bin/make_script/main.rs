@@ -30,6 +30,7 @@ fn main() -> io::Result<()> {
     plays::readings(&mut s, &mut r);
     refused::refusals_3_to_5(&mut s);
     refused::refusals_6_and_7(&mut s, &mut r);
+    refused::refusal_21(&mut s);
     refused::refusals_8_to_10(&mut s, &mut r);
     refused::refusals_11_to_13(&mut s, &mut r);
     lent::take_backs(&mut s, &mut r);

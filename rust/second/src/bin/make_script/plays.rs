@@ -3,7 +3,6 @@
 use crate::pictures::{field_pictures, filled_table, four_forms, mask_picture, picture, plain_pictures};
 use crate::random::Random;
 use crate::script::{brushed, record, Script, COPY, HEIGHT, PAGE, WHOLE, WIDEST, WIDTH};
-use records::bytes::{get, with};
 use records::operation::{blend_field, rop, rop4};
 use records::{Picture, ALPHABLEND, MASKBLT, STRETCHDIBITS};
 
@@ -221,18 +220,15 @@ pub fn masks_and_rasters(s: &mut Script, r: &mut Random) {
         rec.usage = 9;
         s.play(WHOLE, 0x00C3_A55A, &rec.bytes());
     }
-    // One picture for source and mask: both name the same bytes.
-    let shared = picture(r, 40, 12, 10, 1, 2);
-    let rec = record(MASKBLT, [6, 6, 12, 10], rop4(0xB8, 0x11)).from([0, 0, 0, 0], shared);
-    let mut bytes = rec.bytes();
-    for k in 0..4 {
-        bytes = with(&bytes, 112 + 4 * k, get(&bytes, 84 + 4 * k));
-    }
-    s.play(WHOLE, 0x00FE_DCBA, &bytes);
-    // The same header part for bits: parts may overlap.
-    let rec = record(STRETCHDIBITS, [1, 1, 9, 1], COPY).from([0, 0, 9, 1], picture(r, 40, 9, 1, 24, 0));
-    let bytes = rec.bytes();
-    s.play(WHOLE, 0, &with(&bytes, 56, get(&bytes, 48) + 1));
+    // Source and mask are alike, each with bytes of its own.
+    let alike = picture(r, 40, 12, 10, 1, 2);
+    let rec = record(MASKBLT, [6, 6, 12, 10], rop4(0xB8, 0x11)).from([0, 0, 0, 0], alike.clone()).masked([0, 0], alike);
+    s.play(WHOLE, 0x00FE_DCBA, &rec.bytes());
+    // Pixels that are bytes of their header, once more.
+    let mut p = picture(r, 40, 9, 1, 24, 0);
+    p.pixels = p.header_part()[1..29].to_vec();
+    let rec = record(STRETCHDIBITS, [1, 1, 9, 1], COPY).from([0, 0, 9, 1], p);
+    s.play(WHOLE, 0, &rec.bytes());
     // Raster bytes with a source, over all eight mixes of bits.
     let p = picture(r, 40, 9, 8, 24, 0);
     for byte in [0x1B, 0xE4, 0x96, 0xB8] {

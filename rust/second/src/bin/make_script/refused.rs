@@ -1,11 +1,11 @@
-//! Records that statuses 3 to 13 refuse, and their neighbours that pass.
+//! Records that statuses 3 to 13 and 21 refuse, and their neighbours that pass.
 
 use crate::pictures::picture;
 use crate::random::Random;
 use crate::script::{brushed, record, Script, COPY, WHOLE};
-use records::bytes::{with, with_byte};
+use records::bytes::{get, with, with_byte};
 use records::operation::{blend_field, rop, rop4};
-use records::{Picture, ALPHABLEND, MASKBLT, STRETCHDIBITS};
+use records::{Header, Picture, ALPHABLEND, MASKBLT, STRETCHDIBITS};
 
 pub fn refusals_3_to_5(s: &mut Script) {
     let good = brushed([0, 0, 2, 2], 0xF0).bytes();
@@ -86,6 +86,72 @@ pub fn refusals_6_and_7(s: &mut Script, r: &mut Random) {
     s.read_source(&with(&none, 64, 0)); // 7, before the absent source's 11
 }
 
+/// Parts with a byte in common, and parts that only touch.  What passes is
+/// read and not played, so that sheet and journal stay.
+pub fn refusal_21(s: &mut Script) {
+    shared_in_a_picture(s);
+    shared_by_pictures(s);
+}
+
+/// A picture of 2 by 2 that is one colour.
+fn plain(bits: u16, colours: usize) -> Picture {
+    let header = Header::new(40, 2, 2, bits);
+    Picture { header, table: vec![0x0033_6699; colours], pixels: vec![0x5C; header.rows_length()] }
+}
+
+fn shared_in_a_picture(s: &mut Script) {
+    let stretch = record(STRETCHDIBITS, [0, 0, 2, 2], COPY).from([0, 0, 2, 2], plain(24, 0));
+    // Header at 84 to 123, bits at 128 to 143, where Size ends.
+    let there = stretch.clone().gapped(4, false).bytes();
+    s.read_source(&with(&there, 52, 44)); // the header part goes up to the bits: they touch
+    s.read_source(&with(&there, 52, 45)); // one byte further, past what it needs: 21
+    s.read_source(&with(&there, 56, 124)); // the bits begin behind the header: they touch
+    s.play(WHOLE, 0, &with(&there, 56, 123)); // they begin with its last byte: 21
+    s.play(WHOLE, 0, &with(&there, 56, get(&there, 48) + 1)); // they stand inside it: 21
+    s.play(WHOLE, 0, &with(&with(&there, 56, 84), 60, 40)); // they are the header part: 21
+    s.play(WHOLE, 0, &with(&with(&there, 56, 100), 60, 0)); // empty bits inside it share nothing: 10
+    s.play(WHOLE, 0, &with(&with(&there, 48, 136), 52, 0)); // nor an empty header inside the bits: 8
+    s.play(WHOLE, 0, &with(&with(&there, 56, 123), 60, 22)); // a byte shared, and ends past Size: 6
+    s.play(WHOLE, 0, &with(&with(&there, 48, 79), 52, 50)); // a byte shared, and begins too early: 6
+    s.play(WHOLE, 0, &with(&with(&there, 56, 123), 64, 1)); // a byte shared, and the usage 1: 21
+    s.read_source(&with(&with(&there, 56, 123), 60, 15)); // a byte shared, and one too few: 21, before 10
+
+    // Bits at 84 to 99, header at 104 to 143.
+    let back = stretch.gapped(4, true).bytes();
+    s.read_source(&with(&back, 60, 20)); // the bits part goes up to the header: they touch
+    s.read_source(&with(&back, 60, 21)); // one byte further: 21
+
+    let blend = record(ALPHABLEND, [0, 0, 2, 2], blend_field(99, 0)).from([0, 0, 2, 2], plain(24, 0)).bytes();
+    s.play(WHOLE, 0, &with(&with(&blend, 88, 41), 52, 0)); // a byte shared, and XformSrc not the identity: 21
+}
+
+fn shared_by_pictures(s: &mut Script) {
+    let rec = record(MASKBLT, [0, 0, 2, 2], rop4(0xCC, 0xAA)).from([0, 0, 0, 0], plain(24, 0));
+    // Source: header at 132 to 171, bits at 176 to 191.  Mask: header at 196
+    // to 243, bits at 248 to 255, where Size ends.
+    let blt = rec.clone().masked([0, 0], plain(1, 2)).gapped(4, false).bytes();
+    s.read_mask(&with(&blt, 96, 20)); // the source's bits go up to the mask's header: they touch
+    s.play(WHOLE, 0, &with(&blt, 96, 21)); // one byte further: 21
+    s.play(WHOLE, 0, &with(&with(&blt, 112, 132), 116, 40)); // one header part for both: 21
+    s.play(WHOLE, 0, &with(&blt, 112, 133)); // headers a byte apart: 21
+    s.play(WHOLE, 0, &with(&blt, 120, 171)); // the mask's bits begin with the source header's last byte: 21
+    s.play(WHOLE, 0, &with(&blt, 120, 184)); // they are the source's second row: 21
+    s.read_source(&with(&blt, 116, 53)); // the mask's header part goes into its bits: 21
+    s.read_mask(&with(&blt, 88, 45)); // the source's into its own: 21
+    s.read_mask(&with(&with(&blt, 120, 180), 124, 0)); // the mask's bits empty inside the source's: 10
+    s.play(WHOLE, 0, &with(&with(&blt, 96, 21), 124, 9)); // a byte shared, and the mask's bits end past Size: 6
+    s.play(WHOLE, 0, &with(&with(&blt, 96, 21), 108, 1)); // a byte shared, and the mask's usage 1: 21
+    let alone = rec.gapped(4, false).bytes();
+    s.play(WHOLE, 0, &with(&alone, 88, 45)); // no mask, and a byte shared in the source: 21, before 13
+
+    // One picture for both: the mask's four fields are the source's.
+    let mut both = record(MASKBLT, [0, 0, 2, 2], rop4(0xB8, 0x11)).from([0, 0, 0, 0], plain(1, 2)).bytes();
+    for k in 0..4 {
+        both = with(&both, 112 + 4 * k, get(&both, 84 + 4 * k));
+    }
+    s.play(WHOLE, 0, &both); // 21
+}
+
 pub fn refusals_8_to_10(s: &mut Script, r: &mut Random) {
     let p24 = make(picture(r, 40, 2, 2, 24, 0));
     bad_headers(s, r, &p24);
@@ -129,7 +195,7 @@ fn bad_headers(s: &mut Script, r: &mut Random, p24: &[u8]) {
     s.play(WHOLE, 0, &with(p24, 88, -16_384i32 as u32)); // at its limit: 10
     s.play(WHOLE, 0, &with(p24, 88, 0x8000_0000)); // height -2^31: 8
     s.read_source(&with(p24, 112, 1)); // one colour used, no room for it: 8
-    s.read_source(&with(&with(p24, 112, 0x4000_0000), 52, 56)); // 4·2^30 looks like 0: 8
+    s.read_source(&with(p24, 112, 0x4000_0000)); // 4·2^30 looks like 0: 8
     let mut p = picture(r, 40, 2, 2, 24, 257);
     s.read_source(&make(p.clone())); // 257 colours used: 8
     p.header.used = 256;
