@@ -97,7 +97,7 @@ fn shared_parts(present: &[Named]) -> bool {
     (1..parts.len()).any(|k| parts[..k].iter().any(|before| have_common_byte(before, &parts[k])))
 }
 
-/// What two stretches have in common goes from the later start to the earlier
+/// What two parts have in common goes from the later start to the earlier
 /// end; an empty one has no byte.
 fn have_common_byte(a: &Range<i64>, b: &Range<i64>) -> bool {
     !a.is_empty() && !b.is_empty() && a.start.max(b.start) < a.end.min(b.end)
