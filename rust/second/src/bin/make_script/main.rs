@@ -9,7 +9,7 @@ mod refused;
 mod script;
 
 use random::Random;
-use script::{Script, JOURNAL, PIXELS, RECORDS};
+use script::{Script, ITEMS, JOURNAL, PIXELS, RECORDS};
 use std::io::{self, Write};
 
 fn main() -> io::Result<()> {
@@ -18,7 +18,7 @@ fn main() -> io::Result<()> {
     // Head: a sheet one pixel too wide, though all its pixels are lent, and a
     // count above the journal's records.
     let pixels: Vec<u32> = (0..PIXELS).map(|_| r.word()).collect();
-    let mut s = Script(records::Script::new(0, [PIXELS, 1], &pixels, JOURNAL, 0xFFFF_FFF0, RECORDS + 1));
+    let mut s = Script(records::Script::new(ITEMS, [PIXELS, 1], &pixels, JOURNAL, 0xFFFF_FFF0, RECORDS + 1));
 
     lent::sheets_and_journals(&mut s);
     plays::stretch_depths(&mut s, &mut r);

@@ -16,6 +16,9 @@ pub const ODD: u32 = 3 * RECORD - 1;
 /// sum at the end sees the old pixels of all of them.
 pub const PAGE: u32 = 4_000;
 
+/// Bit k for item k of document 02: those that are in force.
+pub const ITEMS: u32 = 1 << 2 | 1 << 4 | 1 << 5 | 1 << 10;
+
 type Clip = [i32; 4];
 pub const WHOLE: Clip = [0, 0, WIDTH as i32, HEIGHT as i32];
 pub const WIDEST: Clip = [i32::MIN, i32::MIN, i32::MAX, i32::MAX];
