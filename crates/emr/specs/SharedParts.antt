@@ -9,8 +9,8 @@ use Rattle.emr.specs.declared.Fields.{Fields}
 
 -- ---- the test
 
--- do n bytes from place a on and m bytes from place b on have one in common? The later start lies before the earlier end: no bytes share
--- nothing, and parts that only touch share nothing.
+-- do the parts of n bytes from place a on and of m bytes from place b on have a byte in common? They do where the later start lies before
+-- the earlier end; an empty part shares nothing, and parts that only touch share nothing.
 abbrev pub share : (a n b m : ℕ) → Bool
 share a n b m = ltb (max a b) (min (a + n) (b + m))
 

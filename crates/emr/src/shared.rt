@@ -4,7 +4,7 @@ ghost use Rattle.emr.specs.SharedParts.{share as shareOf, shareWithin, s
 use crate::Fields;
 use crate::PictureFields;
 
-// n bytes from a on and m bytes from b on. At 64 bits the sums do not wrap.
+// The parts of n bytes from a on and of m bytes from b on. At 64 bits the sums do not wrap.
 fn share(a: u32, n: u32, b: u32, m: u32) -> bool
     ensures { λ r. ⌜ r ≡ shareOf a n b m ⌝ }
 {
