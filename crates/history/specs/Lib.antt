@@ -4,3 +4,4 @@ pub mod Run
 pub mod Reported
 pub mod Stepped
 pub mod Conditions
+pub mod SharedInHistory

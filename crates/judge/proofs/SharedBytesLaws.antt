@@ -12,14 +12,14 @@ use Rattle.words.proofs.ChoiceLaws.{cond-upto, orElse-upto, lowest-upto}
 use Rattle.dib.specs.HeaderStatus.{badHeader, badMasks, bitsNeeded, dibStatus}
 use Rattle.emr.specs.declared.Row.{Row}
 use Rattle.emr.specs.FrameStatus.{badLength, badType, badSize, frameStatus, anyOutside, unreadable, partsStatus}
-use Rattle.emr.specs.SharedParts.{sharedParts, Common, Apart}
+use Rattle.emr.specs.SharedParts.{sharedParts, Apart}
 use Rattle.emr.proofs.SharedPartsLaws.{says-refusal-21}
 use Rattle.judge.specs.declared.Picture.{Picture}
 use Rattle.judge.specs.declared.Record.{Record}
 use Rattle.judge.specs.Record.{rowIn, fieldsIn, recordOf}
 use Rattle.judge.specs.Operation.{badOperation, badMask}
 use Rattle.judge.specs.Check.{pictureStatus, dibsStatus, badGeometry, callStatus, laterStatus, statusOf}
-use Rattle.judge.specs.SharedBytes.{partsNamed, before21, after21, SharedBytes}
+use Rattle.judge.specs.SharedBytes.{partsNamed, SharesBytes, before21, after21, SharedBytes}
 
 -- ---- the other statuses are below 21
 
@@ -87,11 +87,11 @@ module _ (s : List ℕ) where
       orElse-upto seven later (cond-upto (unreadable s (rowIn s .at) (fieldsIn s)) 7 0 (lit≤ tt) (lit≤ tt))
       (later-upto (rowIn s) (fieldsIn s .operation) (recordOf s))
 
-  refused : Common (partsNamed s) → statusOf s ≡ orElse (before21 s) 21
+  refused : SharesBytes s → statusOf s ≡ orElse (before21 s) 21
   refused c = order true (says-refusal-21 (fieldsIn s) .only c)
 
   -- the two cases
-  by-test : {C : Type 0} → (Common (partsNamed s) → C) → (sharedParts (fieldsIn s) ≡ false → C) → C
+  by-test : {C : Type 0} → (SharesBytes s → C) → (sharedParts (fieldsIn s) ≡ false → C) → C
   by-test {C} some none = go (sharedParts (fieldsIn s)) refl
     where
       go : (t : Bool) → sharedParts (fieldsIn s) ≡ t → C
@@ -101,7 +101,7 @@ module _ (s : List ℕ) where
   passed : Apart (partsNamed s) → statusOf s ≡ orElse (before21 s) (after21 s)
   passed a = by-test (λ c. absurd (a (c .one) (c .other) (c .different) (c .place) (c .in-one) (c .in-other))) (order false)
 
-  only : statusOf s ≡ 21 → (before21 s ≡ 0) × Common (partsNamed s)
+  only : statusOf s ≡ 21 → (before21 s ≡ 0) × SharesBytes s
   only e =
       by-test (λ c. (none-before (before21 s) before-upto (sym (refused c) ∙ e), c))
       (λ n. let h : orElse (before21 s) (after21 s) ≤ 13 = orElse-upto (before21 s) (after21 s) (omega (arith, before-upto)) after-upto in

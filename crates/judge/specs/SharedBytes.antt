@@ -14,6 +14,10 @@ use Rattle.judge.specs.Check.{laterStatus, statusOf}
 abbrev pub partsNamed : List ℕ → Part → Range
 partsNamed s = partsOf (fieldsIn s)
 
+-- "Any two parts of the present pictures that have a byte in common": the record has two such parts
+abbrev pub SharesBytes : List ℕ → Type 0
+SharesBytes s = Common (partsNamed s)
+
 -- 3 to 6
 abbrev pub before21 : List ℕ → ℕ
 before21 s = orElse (frameStatus s (rowIn s .at)) (given 6 (anyOutside (length s) (rowIn s .at .fixed) (fieldsIn s)) 0)
@@ -23,9 +27,9 @@ abbrev pub after21 : List ℕ → ℕ
 after21 s = orElse (given 7 (unreadable s (rowIn s .at) (fieldsIn s)) 0) (laterStatus (rowIn s) (fieldsIn s .operation) (recordOf s))
 
 pub record SharedBytes (s : List ℕ) : Type 0 where
-  -- two parts have a byte in common: refused, with 21 where none of 3 to 6 applies, whatever of 7 onwards does
-  pub refused : Common (partsNamed s) → statusOf s ≡ orElse (before21 s) 21
-  -- else the order is document 01's
+  -- such a record is refused: with the first of 3 to 6 that applies, else with 21, whatever of 7 onwards does
+  pub refused : SharesBytes s → statusOf s ≡ orElse (before21 s) 21
+  -- where no byte lies in two parts, the order is document 01's
   pub passed : Apart (partsNamed s) → statusOf s ≡ orElse (before21 s) (after21 s)
   -- 21 is given only there
-  pub only : statusOf s ≡ 21 → (before21 s ≡ 0) × Common (partsNamed s)
+  pub only : statusOf s ≡ 21 → (before21 s ≡ 0) × SharesBytes s

@@ -6,9 +6,8 @@ use lib.Dec.{lit≤, ltb}
 use lib.ListN.{length}
 use Rattle.words.specs.Status.{orElse}
 use Rattle.words.proofs.ChoiceLaws.{cond-upto, orElse-upto}
-use Rattle.emr.specs.SharedParts.{Common}
 use Rattle.judge.specs.Check.{statusOf}
-use Rattle.judge.specs.SharedBytes.{partsNamed, before21}
+use Rattle.judge.specs.SharedBytes.{SharesBytes, before21}
 use Rattle.judge.proofs.SharedBytesLaws.{shared-bytes}
 use Rattle.journal.specs.Drawing.{Work}
 use Rattle.memory.specs.Memory.{Memory, Outcome, outcome, settle, badSurface, badJournal, surfaceStatus, journalStatus, limits, memoryStatus, records}
@@ -23,7 +22,7 @@ settled zero zero full m good = refl
 settled zero (suc k) full m good = refl
 settled (suc k) early full m good = refl
 
-refused : (width height : ℕ) (p : Play) (m : Memory) → Common (partsNamed (p .bytes))
+refused : (width height : ℕ) (p : Play) (m : Memory) → SharesBytes (p .bytes)
     → playOutcome width height p m ≡ outcome (orElse (memoryStatus width height m) (orElse (before21 (p .bytes)) 21)) 0 m
 unfolding playOutcome playOf
 refused width height p m c =
