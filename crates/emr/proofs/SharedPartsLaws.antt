@@ -145,3 +145,15 @@ module _ (f : Fields) where
   -- where the test fails, no byte lies in two parts
   pub apart : sharedParts f ≡ false → Apart of
   apart e one other d k h l = true≢false (sym (only one other d k h l) ∙ e)
+
+  -- without a mask, only the source's own pair is left
+  pub no-mask : f .mask .present ≡ false → sharedParts f ≡ shareWithin (f .source)
+  unfolding sharedParts
+  no-mask e = go (f .mask .present) e (f .source .present) (shareWithin (f .source)) _ _
+    where
+      go : (mask : Bool) → mask ≡ false → (source within own cross : Bool) → (within || mask && own || source && mask && cross) ≡ within
+      go true e source within own cross = absurd (true≢false e)
+      go false e true true own cross = refl
+      go false e true false own cross = refl
+      go false e false true own cross = refl
+      go false e false false own cross = refl

@@ -20,22 +20,24 @@ fn within(p: PictureFields) -> bool
     p.present & share(p.bmi, p.bmi_len, p.bits, p.bits_len)
 }
 
-// A part of each of two pictures; asked for only where both are there, which few records have.
+// A part of each of two pictures.
 fn between(p: PictureFields, q: PictureFields) -> bool
     ensures { λ r. ⌜ r ≡ shareBetween p q ⌝ }
 {
-    if p.present & q.present {
-        return share(p.bmi, p.bmi_len, q.bmi, q.bmi_len)
+    p.present
+        & q.present
+        & (share(p.bmi, p.bmi_len, q.bmi, q.bmi_len)
             | share(p.bmi, p.bmi_len, q.bits, q.bits_len)
             | share(p.bits, p.bits_len, q.bmi, q.bmi_len)
-            | share(p.bits, p.bits_len, q.bits, q.bits_len);
-    }
-    false
+            | share(p.bits, p.bits_len, q.bits, q.bits_len))
 }
 
-// All six pairs.
+// All six pairs; without a mask, as most records are, one.
 pub fn parts(f: Fields) -> bool
     ensures { λ r. ⌜ r ≡ sharedParts f ⌝ }
 {
-    within(f.source) | within(f.mask) | between(f.source, f.mask)
+    if f.mask.present {
+        return within(f.source) | within(f.mask) | between(f.source, f.mask);
+    }
+    within(f.source)
 }

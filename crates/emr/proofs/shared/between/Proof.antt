@@ -1,7 +1,6 @@
--- Where both pictures are present, each call answers its definition, and the code joins them as the definition does; else no pair is asked for.
-use mathlib.Core.Path.{_≡_, refl, sym, _∙_}
+-- Each call answers its definition, and the code joins them as the definition does.
+use mathlib.Core.Path.{_≡_}
 use mathlib.Core.Bool.{_&&_, _||_}
-use Rattle.words.proofs.ChoiceLaws.{and-by-first, and-by-second}
 use Rattle.emr.specs.SharedParts.{share}
 use borrow.Author.Needs.{needs}
 use Rattle.emr.proofs.shared.between.Statement.{statement}
@@ -12,20 +11,15 @@ returns c =
     let at-share3 = c .before in
     let at-share2 = at-share3 .before in
     let at-share = at-share2 .before in
-    let at-if = at-share .before in
-    let a = at-if .before .before .before .args in
+    let start = at-share .before .before .before in
+    let a = start .args in
     let p = a .p in
     let q = a .q in
     let headers : at-share .share .result ≡ share (p .bmi) (p .«bmi_len») (q .bmi) (q .«bmi_len») = at-share .share .ensures in
     let header-bits : at-share2 .share2 .result ≡ share (p .bmi) (p .«bmi_len») (q .bits) (q .«bits_len») = at-share2 .share2 .ensures in
     let bits-header : at-share3 .share3 .result ≡ share (p .bits) (p .«bits_len») (q .bmi) (q .«bmi_len») = at-share3 .share3 .ensures in
     let both-bits : c .share4 .result ≡ share (p .bits) (p .«bits_len») (q .bits) (q .«bits_len») = c .share4 .ensures in
-    let met : (at-share .share .result || at-share2 .share2 .result || at-share3 .share3 .result || c .share4 .result) ≡ _ =
-    λ t. headers t || header-bits t || bits-header t || both-bits t in
-    met ∙ sym (and-by-second (p .present && q .present) _ (at-if .if1 .taken) refl)
-
-returns-2 : tie.Need-returns-2
-returns-2 c = sym (and-by-first _ _ (c .if1 .left))
+    λ t. p .present && q .present && (headers t || header-bits t || bits-header t || both-bits t)
 
 pub between-spec : {M : Type 1} → statement M
-between-spec = tie.close (tie.spec (λ c κs. search needs) (λ c κs. search needs) (λ c κs. search needs) (λ c κs. search needs) returns returns-2)
+between-spec = tie.close (tie.spec (λ c κs. search needs) (λ c κs. search needs) (λ c κs. search needs) (λ c κs. search needs) returns)
