@@ -90,7 +90,7 @@ module _ (s : List ℕ) where
   refused : SharesBytes s → statusOf s ≡ orElse (before21 s) 21
   refused c = order true (says-refusal-21 (fieldsIn s) .only c)
 
-  -- the two cases
+  -- two parts have a byte in common, or the test fails
   by-test : {C : Type 0} → (SharesBytes s → C) → (sharedParts (fieldsIn s) ≡ false → C) → C
   by-test {C} some none = go (sharedParts (fieldsIn s)) refl
     where

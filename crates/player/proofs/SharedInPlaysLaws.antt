@@ -5,7 +5,7 @@ use native.Mathlib.Omega.{arith}
 use lib.Dec.{lit≤, ltb}
 use lib.ListN.{length}
 use Rattle.words.specs.Status.{orElse}
-use Rattle.words.proofs.ChoiceLaws.{cond-upto, orElse-upto}
+use Rattle.words.proofs.ChoiceLaws.{cond-upto, orElse-upto, orElse-middle}
 use Rattle.judge.specs.Check.{statusOf}
 use Rattle.judge.specs.SharedBytes.{SharesBytes, before21}
 use Rattle.judge.proofs.SharedBytesLaws.{shared-bytes}
@@ -30,21 +30,16 @@ refused width height p m c =
     ap (λ (n : ℕ). playOf width height n k m) (shared-bytes (p .bytes) .refused c)
     ∙ settled (memoryStatus width height m) (before21 (p .bytes)) (fullStatus k m) m _
 
-memory-upto : (width height : ℕ) (m : Memory) → memoryStatus width height m ≤ 20
+memory-upto : (width height : ℕ) (m : Memory) → memoryStatus width height m ≤ 2
 unfolding limits surfaceStatus journalStatus
 memory-upto width height m =
     orElse-upto (surfaceStatus width height (length (m .surface))) (journalStatus (length (m .journal)) (m .used))
     (cond-upto (badSurface width height (length (m .surface))) 1 0 (lit≤ tt) (lit≤ tt))
     (cond-upto (badJournal (length (m .journal)) (m .used)) 2 0 (lit≤ tt) (lit≤ tt))
 
-full-upto : (k : Work) (m : Memory) → fullStatus k m ≤ 20
+full-upto : (k : Work) (m : Memory) → fullStatus k m ≤ 14
 unfolding fullStatus
 full-upto k m = cond-upto (ltb (records m - m .used) (counted k + 1)) 14 0 (lit≤ tt) (lit≤ tt)
-
-by-reading : (memory reading full : ℕ) → memory ≤ 20 → full ≤ 20 → orElse memory (orElse reading full) ≡ 21 → reading ≡ 21
-by-reading zero zero full h l e = absurd (omega arith)
-by-reading zero (suc k) full h l e = e
-by-reading (suc k) reading full h l e = absurd (omega arith)
 
 pub shared-in-plays : SharedInPlays
 shared-in-plays = record {
@@ -52,7 +47,7 @@ shared-in-plays = record {
   only = λ width height p m e.
       let k : Work = work width height p in
       let n : statusOf (p .bytes) ≡ 21 =
-      by-reading (memoryStatus width height m) (statusOf (p .bytes)) (fullStatus k m) (memory-upto width height m) (full-upto k m)
-      (sym (condition2 width height p m .exact) ∙ e) in
+      orElse-middle (memoryStatus width height m) (statusOf (p .bytes)) (fullStatus k m)
+      (omega (arith, memory-upto width height m)) (omega (arith, full-upto k m)) (sym (condition2 width height p m .exact) ∙ e) in
       shared-bytes (p .bytes) .only n .1;
 }

@@ -1,2 +1,3 @@
--- What the readings' proofs cite.
+-- What the readings' proofs cite, and readings of records whose parts share bytes.
 pub mod ReadingLaws
+pub mod SharedInReadingsLaws
