@@ -3,12 +3,9 @@
 use std::fmt;
 
 use crate::bytes::{i32_at, u32_at};
+use crate::record_types::{self, EOF, HEADER};
 use crate::words;
 
-/// The header record, first in a file.
-pub const HEADER: u32 = 1;
-/// The EOF record, last in a file.
-pub const END: u32 = 14;
 /// " EMF", at byte 40 of the header record.
 const SIGNATURE: u32 = 0x464D_4520;
 /// The shortest header record there is.
@@ -25,7 +22,7 @@ pub struct Record<'a> {
 impl Record<'_> {
     /// True for the three types that are played.
     pub fn is_played(&self) -> bool {
-        words::kind(self.kind).is_some()
+        record_types::played(self.kind).is_some()
     }
 
     /// Bounds (left, top, right, bottom); None where the record is too short for it.
@@ -161,7 +158,7 @@ impl<'a> Iterator for Walk<'a> {
         }
         let step = self.step();
         self.over = match step {
-            Ok(record) => record.kind == END,
+            Ok(record) => record.kind == EOF,
             Err(_) => true,
         };
         Some(step)
@@ -197,7 +194,7 @@ mod tests {
 
     #[test]
     fn a_whole_file() {
-        let bytes = file(&[header(), record(0x51, 80, 80), record(70, 12, 12), record(END, 20, 20)]);
+        let bytes = file(&[header(), record(0x51, 80, 80), record(70, 12, 12), record(EOF, 20, 20)]);
         let records: Vec<Record> = walk(&bytes).map(|step| step.unwrap()).collect();
         let places: Vec<(usize, u32, usize)> = records.iter().map(|r| (r.offset, r.kind, r.bytes.len())).collect();
         assert_eq!(places, [(0, 1, 88), (88, 0x51, 80), (168, 70, 12), (180, 14, 20)]);
@@ -208,7 +205,7 @@ mod tests {
 
     #[test]
     fn what_stands_behind_the_end_is_left() {
-        let bytes = file(&[header(), record(END, 20, 20), vec![7; 5]]);
+        let bytes = file(&[header(), record(EOF, 20, 20), vec![7; 5]]);
         let mut steps = walk(&bytes);
         assert_eq!(steps.by_ref().count(), 2);
         assert_eq!(steps.left(), 5);
@@ -232,7 +229,7 @@ mod tests {
     fn no_header() {
         assert_eq!(end(b""), (0, Some(Damage::CutOff { offset: 0, left: 0 })));
         assert_eq!(end(b"EMF"), (0, Some(Damage::CutOff { offset: 0, left: 3 })));
-        assert_eq!(end(&record(END, 20, 20)), (0, Some(Damage::NoHeader { kind: END })));
+        assert_eq!(end(&record(EOF, 20, 20)), (0, Some(Damage::NoHeader { kind: EOF })));
         assert_eq!(end(b"\x89PNG\r\n\x1a\n").1, Some(Damage::NoHeader { kind: 0x474E_5089 }));
         assert_eq!(end(&record(HEADER, 80, 80)), (0, Some(Damage::ShortHeader { size: 80 })));
         assert_eq!(end(&record(HEADER, 88, 88)), (0, Some(Damage::NoSignature)));
@@ -250,7 +247,7 @@ mod tests {
     /// Each cut, and each byte of the small numbers changed: the walk ends, and covers no more than the file.
     #[test]
     fn every_cut_and_change_ends() {
-        let whole = file(&[header(), record(0x72, 108, 108), record(0x4E, 128, 128), record(END, 20, 20)]);
+        let whole = file(&[header(), record(0x72, 108, 108), record(0x4E, 128, 128), record(EOF, 20, 20)]);
         for length in 0..whole.len() {
             assert!(end(&whole[..length]).1.is_some());
         }

@@ -8,6 +8,7 @@ pub mod bytes;
 pub mod crc;
 pub mod library;
 pub mod progress;
+pub mod record_types;
 pub mod words;
 
 pub mod emf;

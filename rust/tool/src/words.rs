@@ -30,16 +30,6 @@ pub fn numbered(number: u32) -> String {
     format!("status {number}: {}", status(number))
 }
 
-/// A record type by name; None for one that is not played.
-pub fn kind(kind: u32) -> Option<&'static str> {
-    match kind {
-        0x72 => Some("alpha blend"),
-        0x4E => Some("mask blit"),
-        0x51 => Some("stretched DIB"),
-        _ => None,
-    }
-}
-
 /// A number with its thousands set apart, as in 20,000,000.
 pub fn count(number: u64) -> String {
     let digits = number.to_string();
@@ -79,11 +69,5 @@ mod tests {
         assert_eq!(count(20_000_000), "20,000,000");
         assert_eq!(things(1, "play"), "1 play");
         assert_eq!(things(0, "play"), "0 plays");
-    }
-
-    #[test]
-    fn kinds() {
-        assert_eq!(kind(0x72), Some("alpha blend"));
-        assert_eq!(kind(0x4F), None);
     }
 }

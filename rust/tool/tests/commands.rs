@@ -70,8 +70,9 @@ fn info_lists_bitmap_records() {
     assert_eq!(lines.len(), 4);
     let bounds = "Bounds 0, 0, 4095, 4095";
     let good = "status 0: can be played";
-    let blend = format!("offset 88: alpha blend (0x72), Size 152, {bounds}; source 1 by 1, 32 bits; {good}");
-    let mask = format!("offset 252: mask blit (0x4E), Size 184, {bounds}; mask 8 by 2, 1 bit; {good}");
+    let blend =
+        format!("offset 88: alpha blend (EMR_ALPHABLEND, 0x72), Size 152, {bounds}; source 1 by 1, 32 bits; {good}");
+    let mask = format!("offset 252: mask blit (EMR_MASKBLT, 0x4E), Size 184, {bounds}; mask 8 by 2, 1 bit; {good}");
     assert_eq!(lines[1..3], [blend, mask]);
     assert_eq!(lines[3], "2 bitmap records, all can be played; 1 other record skipped");
     let out = folder.run("info refused.emf").expect(2).out;
@@ -130,7 +131,7 @@ fn plays_draw_what_the_records_say() {
     let before = folder.get_sheet("sheet.png");
     folder.put("one.emf", &emf(&[brush_record([2, 3, 10, 10])]));
     let ended = folder.run("play sheet.png one.emf -o out.png --brush #3060C0 --clip=-9,5,6,7").expect(0);
-    assert!(ended.out.contains("one.emf: offset 88: stretched DIB (0x51): 8 pixels\n"), "{ended:?}");
+    assert!(ended.out.contains("one.emf: offset 88: stretched DIB (EMR_STRETCHDIBITS, 0x51): 8 pixels\n"), "{ended:?}");
     assert!(ended.out.contains("1 play, 0 refused, 0 other records skipped; wrote out.png"));
     assert!(ended.err.is_empty());
     let after = folder.get_sheet("out.png");
@@ -208,7 +209,9 @@ fn a_journal_is_continued() {
 fn refused_records_are_skipped() {
     let folder = prepared("refused_records_are_skipped");
     let ended = folder.run("play sheet.png refused.emf b.emf -o out.png --journal j").expect(2);
-    assert!(ended.err.contains("refused.emf: offset 168: alpha blend (0x72): refused and skipped, status 11: "));
+    assert!(ended
+        .err
+        .contains("refused.emf: offset 168: alpha blend (EMR_ALPHABLEND, 0x72): refused and skipped, status 11: "));
     assert!(ended.out.contains("4 plays, 1 refused"));
     folder.run("undo out.png --journal j -o undone.png --all").expect(0);
     assert_eq!(folder.get("undone.png"), folder.get("sheet.png"));

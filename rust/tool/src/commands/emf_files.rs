@@ -4,6 +4,7 @@ use std::path::Path;
 
 use super::output::complain;
 use crate::emf::{self, Record};
+use crate::record_types::{EOF, HEADER};
 use crate::{files, words};
 
 /// Far more than a real EMF file has; it keeps a wrong file from filling the memory.
@@ -21,7 +22,7 @@ pub fn bitmap_records<'a>(path: &Path, bytes: &'a [u8], mut each: impl FnMut(Rec
         let record = step.map_err(|damage| format!("{} is damaged: {damage}", path.display()))?;
         if record.is_played() {
             each(record);
-        } else if record.kind != emf::HEADER && record.kind != emf::END {
+        } else if record.kind != HEADER && record.kind != EOF {
             others += 1;
         }
     }

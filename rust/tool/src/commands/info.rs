@@ -7,7 +7,7 @@ use super::emf_files;
 use super::output::{Out, FINE, REFUSED};
 use crate::emf::Record;
 use crate::library::{self, Which};
-use crate::words;
+use crate::{record_types, words};
 
 const KNOWN: Known = Known { command: "info", valued: &[], flags: &[] };
 
@@ -70,10 +70,9 @@ fn describe(record: &Record) -> (String, bool) {
         Err(_) => String::new(),
     };
     let line = format!(
-        "offset {}: {} (0x{:02X}), Size {}, {bounds}{pictures}; {}",
+        "offset {}: {}, Size {}, {bounds}{pictures}; {}",
         record.offset,
-        words::kind(record.kind).unwrap_or("other"),
-        record.kind,
+        record_types::named(record.kind),
         record.bytes.len(),
         words::numbered(reading.err().unwrap_or(0))
     );

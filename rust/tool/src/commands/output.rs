@@ -4,6 +4,7 @@ use std::io::{self, ErrorKind, Write};
 
 pub const FINE: u8 = 0;
 pub const ERROR: u8 = 1;
+/// A record was refused or skipped.
 pub const REFUSED: u8 = 2;
 
 /// Standard output. The first failure is kept for the end: what was asked for is done all the same.

@@ -14,7 +14,7 @@ use crate::emf::Record;
 use crate::journal::{Journal, Refusal};
 use crate::progress::Progress;
 use crate::sheet::Sheet;
-use crate::{files, sheet_files, words};
+use crate::{files, record_types, sheet_files, words};
 
 const KNOWN: Known = Known { command: "play", valued: &["-o", "--clip", "--brush", "--journal"], flags: &["--force"] };
 
@@ -101,8 +101,7 @@ fn play_one(
     brush: u32,
     out: &mut Out,
 ) -> Result<bool, String> {
-    let name = words::kind(record.kind).unwrap_or("other");
-    let place = format!("{}: offset {}: {name} (0x{:02X})", path.display(), record.offset, record.kind);
+    let place = format!("{}: offset {}: {}", path.display(), record.offset, record_types::named(record.kind));
     match journal.play(&mut sheet.surface, record.bytes, clip, brush) {
         Ok(pixels) => {
             out.line(&format!("{place}: {}", words::things(pixels.into(), "pixel")));
