@@ -25,6 +25,11 @@ pub fn i32_at(bytes: &[u8], at: usize) -> Option<i32> {
     part(bytes, at).map(i32::from_le_bytes)
 }
 
+/// A little-endian 32-bit float.
+pub fn f32_at(bytes: &[u8], at: usize) -> Option<f32> {
+    part(bytes, at).map(f32::from_le_bytes)
+}
+
 /// A big-endian 32-bit number, as PNG and zlib have them.
 pub fn u32_big_at(bytes: &[u8], at: usize) -> Option<u32> {
     part(bytes, at).map(u32::from_be_bytes)

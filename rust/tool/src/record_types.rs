@@ -38,9 +38,9 @@ const NAMES: [&str; 122] = [
 
 /// A type's name as MS-EMF has it, such as EMR_BITBLT.
 pub fn name(kind: u32) -> Cow<'static, str> {
-    match (kind as usize).checked_sub(1).and_then(|at| NAMES.get(at)) {
-        Some(name) if !name.is_empty() => Cow::Owned(format!("EMR_{name}")),
-        _ => Cow::Borrowed("record of an unknown type"),
+    match is_known(kind) {
+        true => Cow::Owned(format!("EMR_{}", NAMES[kind as usize - 1])),
+        false => Cow::Borrowed("record of an unknown type"),
     }
 }
 
@@ -57,6 +57,16 @@ pub fn played(kind: u32) -> Option<&'static str> {
 /// The types that carry a bitmap, whether they are played or not (MS-EMF, 2.3.1).
 pub fn is_bitmap(kind: u32) -> bool {
     matches!(kind, BITBLT..=STRETCHDIBITS | ALPHABLEND | TRANSPARENTBLT)
+}
+
+/// The types that draw something else than a bitmap: lines, shapes, fills, text.
+pub fn draws_otherwise(kind: u32) -> bool {
+    matches!(kind, 2..=8 | 15 | 41..=47 | 53..=56 | 62..=64 | 71..=74 | 83..=92 | 96 | 97 | 102 | 103 | 105 | 108 | 118)
+}
+
+/// Whether MS-EMF gives this number to a type.
+pub fn is_known(kind: u32) -> bool {
+    (kind as usize).checked_sub(1).and_then(|at| NAMES.get(at)).is_some_and(|name| !name.is_empty())
 }
 
 /// A type as the tool speaks of it: name, number and, where it is played, in words.
@@ -102,5 +112,14 @@ mod tests {
         assert_eq!(named(PLGBLT), "EMR_PLGBLT (0x4F)");
         assert_eq!((1..=200).filter(|kind| is_bitmap(*kind)).count(), 8);
         assert_eq!((1..=200).filter(|kind| played(*kind).is_some()).count(), 3);
+        assert!((1..=200).all(|kind| !(is_bitmap(kind) && draws_otherwise(kind))));
+        for name_of in ["POLYGON", "SETPIXELV", "PIE", "LINETO", "FILLPATH", "PAINTRGN", "EXTTEXTOUTW", "GRADIENTFILL"] {
+            let kind = NAMES.iter().position(|name| *name == name_of).unwrap() as u32 + 1;
+            assert!(draws_otherwise(kind), "{name_of}");
+        }
+        for name_of in ["SETBRUSHORGEX", "MOVETOEX", "SAVEDC", "SELECTOBJECT", "BEGINPATH", "COMMENT", "EXTCREATEPEN"] {
+            let kind = NAMES.iter().position(|name| *name == name_of).unwrap() as u32 + 1;
+            assert!(!draws_otherwise(kind), "{name_of}");
+        }
     }
 }

@@ -48,6 +48,24 @@ pub fn things(number: u64, one: &str) -> String {
     format!("{} {one}{}", count(number), if number == 1 { "" } else { "s" })
 }
 
+/// Numbers of records, neighbours drawn together: `record 3`, `records 1 to 4, 7, 9`. They stand in rising order.
+pub fn records(numbers: &[usize]) -> String {
+    let mut spans: Vec<(usize, usize)> = Vec::new();
+    for &number in numbers {
+        match spans.last_mut() {
+            Some((_, last)) if *last + 1 == number => *last = number,
+            _ => spans.push((number, number)),
+        }
+    }
+    let span = |&(first, last): &(usize, usize)| match last - first {
+        0 => format!("{first}"),
+        1 => format!("{first}, {last}"),
+        _ => format!("{first} to {last}"),
+    };
+    let spans: Vec<String> = spans.iter().map(span).collect();
+    format!("record{} {}", if numbers.len() == 1 { "" } else { "s" }, spans.join(", "))
+}
+
 #[cfg(test)]
 mod tests {
     use super::*;
@@ -69,5 +87,12 @@ mod tests {
         assert_eq!(count(20_000_000), "20,000,000");
         assert_eq!(things(1, "play"), "1 play");
         assert_eq!(things(0, "play"), "0 plays");
+    }
+
+    #[test]
+    fn numbers_of_records() {
+        assert_eq!(records(&[3]), "record 3");
+        assert_eq!(records(&[1, 2]), "records 1, 2");
+        assert_eq!(records(&[1, 2, 3, 4, 7, 9, 10]), "records 1 to 4, 7, 9, 10");
     }
 }

@@ -3,37 +3,68 @@
 use std::ffi::OsString;
 use std::path::{Path, PathBuf};
 
-use face::constants::{MOST_JOURNAL, NO_ROOM};
 use face::Clip;
 
-use super::arguments::{self, Known};
+use super::arguments::{self, Arguments, Known};
+use super::choice::Choice;
 use super::emf_files;
-use super::output::{complain, Out, FINE, REFUSED};
+use super::output::{complain, Out, FINE};
+use super::playing::Playing;
 use super::results::write_both;
-use crate::emf::Record;
+use super::tally::Tally;
 use crate::journal::{Journal, Refusal};
 use crate::progress::Progress;
 use crate::sheet::Sheet;
-use crate::{files, record_types, sheet_files, words};
+use crate::survey::{Fate, Listed};
+use crate::{files, reasons, sheet_files, words};
 
-const KNOWN: Known = Known { command: "play", valued: &["-o", "--clip", "--brush", "--journal"], flags: &["--force"] };
+const KNOWN: Known = Known {
+    command: "play",
+    valued: &["-o", "--clip", "--brush", "--journal", "--only", "--skip"],
+    flags: &["--force", "--strict", "--dry-run"],
+};
 
 const HELP: &str = "\
-lacrumont play SHEET FILE.emf [FILE.emf ..] -o OUT [--clip L,T,R,B] [--brush RRGGBB] [--journal FILE] [--force]
+lacrumont play SHEET FILE.emf [FILE.emf ..] -o OUT [options]
 
 Plays every bitmap record of the files (alpha blend 0x72, mask blit 0x4E, stretched DIB 0x51) in order onto the sheet
-and writes OUT. A record that cannot be played is reported and skipped. OUT has the sheet's pixels and nothing else
-of its file. A damaged EMF file is an error: then nothing is written.
+and writes OUT. A record that is refused, or of a type that is not played, is named on standard error, and so is
+whatever else in a file is not honoured: mappings, clips, brushes, lines, text. A damaged EMF file is an error: then
+nothing is written.
 
   -o OUT           the file to write, .png or .bmp
   --clip L,T,R,B   only pixels inside are drawn; right and bottom are not included; without it, the whole sheet
   --brush RRGGBB   the brush's colour, six hexadecimal digits; without it, 000000
+  --only N[,N]     plays only these of the file's bitmap records, numbered from 1 as info lists them
+  --skip N[,N]     leaves these out; both options need a single EMF file
+  --strict         all or nothing: where a wanted record is refused or skipped, nothing is written
+  --dry-run        says what would be drawn and how many journal records it takes, and writes nothing; needs no -o
   --journal FILE   keeps every old pixel in FILE, so that undo can take the plays back. A journal that is there and
                    belongs to SHEET is continued; without one it is begun
-  --force          writes over OUT if it is there, and begins the journal anew if it is another sheet's
+  --force          writes over OUT if it is there
 
-Exit code: 0 all was played, 1 an error of files or use, 2 a record was refused.
+The last line tells of all bitmap records: played; drew nothing (accepted, but Bounds or target miss the clip);
+refused; skipped (a type that is not played); left out (--only, --skip).
+
+Exit status: 0 every wanted record was played and nothing was warned about
+             1 an error of files or use: nothing was written
+             2 a record was refused or skipped
+             3 all were played, but there are warnings
 ";
+
+/// What the command is asked to do.
+struct Asked {
+    sheet: PathBuf,
+    emfs: Vec<PathBuf>,
+    out: Option<PathBuf>,
+    journal: Option<PathBuf>,
+    clip: Option<Clip>,
+    brush: u32,
+    choice: Choice,
+    force: bool,
+    strict: bool,
+    dry_run: bool,
+}
 
 pub fn run(arguments: &[OsString], out: &mut Out) -> Result<u8, String> {
     let parsed = KNOWN.parse(arguments)?;
@@ -41,97 +72,142 @@ pub fn run(arguments: &[OsString], out: &mut Out) -> Result<u8, String> {
         out.text(HELP);
         return Ok(FINE);
     }
-    let (sheet_path, emf_paths) = match &parsed.plain[..] {
-        [sheet, files @ ..] if !files.is_empty() => (sheet, files),
-        _ => return Err(KNOWN.wrong("play needs a sheet and one or more EMF files")),
-    };
-    let out_path = parsed.path("-o").ok_or_else(|| KNOWN.wrong("-o OUT is missing"))?;
-    let journal_path = parsed.path("--journal");
-    let brush = parsed.text("--brush").map_or(Ok(0), |text| arguments::brush(&text))?;
-    let clip = parsed.text("--clip").map(|text| arguments::clip(&text)).transpose()?;
-    let force = parsed.has("--force");
-    sheet_files::format(&out_path)?;
-    check_names(sheet_path, emf_paths, &out_path, journal_path.as_deref())?;
-    files::check_free(&out_path, force)?;
+    let asked = Asked::of(&parsed)?;
+    asked.check_names()?;
 
     let mut progress = Progress::new();
-    let mut sheet = sheet_files::load(sheet_path, &mut progress)?;
-    let (mut journal, continued) = match &journal_path {
-        Some(path) => open_journal(path, &sheet, force)?,
+    let mut sheet = sheet_files::load(&asked.sheet, &mut progress)?;
+    let (journal, continued) = match &asked.journal {
+        Some(path) => open_journal(path, &sheet, asked.force)?,
         None => (Journal::new(), false),
     };
     // All files are read and walked before the first pixel is drawn, so that a damaged one changes nothing.
-    let files: Vec<Vec<u8>> = emf_paths.iter().map(|path| emf_files::read(path)).collect::<Result<_, _>>()?;
-    let mut records = Vec::new();
-    let mut others = 0;
-    for (path, bytes) in emf_paths.iter().zip(&files) {
-        others += emf_files::bitmap_records(path, bytes, |record| records.push((path.as_path(), record)))?;
+    let files: Vec<Vec<u8>> = asked.emfs.iter().map(|path| emf_files::read(path)).collect::<Result<_, _>>()?;
+    let mut tally = Tally::default();
+    let records = asked.records(&files, &mut tally)?;
+    if asked.strict && tally.is_short() {
+        out.line(&format!("{}; nothing was written (--strict)", tally.line()));
+        return Ok(tally.code());
     }
 
-    let surface = &sheet.surface;
-    let whole = Clip { left: 0, top: 0, right: surface.width as i32, bottom: surface.height as i32 };
-    let mut refused = 0;
-    for (done, (path, record)) in records.iter().enumerate() {
-        refused += u64::from(!play_one(&mut sheet, &mut journal, path, record, clip.unwrap_or(whole), brush, out)?);
-        // These plays will not be taken back, so each may have the whole journal.
-        if journal_path.is_none() {
-            journal.forget();
-        }
+    let clip = asked.clip.unwrap_or_else(|| whole(&sheet));
+    let scratch = (asked.journal.is_none() || asked.dry_run).then(Journal::new);
+    let mut playing = Playing { sheet: &mut sheet, journal, scratch, clip, brush: asked.brush, needed: 0, tally, out };
+    for (done, (path, listed)) in records.iter().enumerate() {
+        playing.play(path, listed)?;
         progress.tell("playing", done + 1, records.len());
     }
-
-    write_both(&sheet, &out_path, force, &journal, journal_path.as_deref(), continued || force, &mut progress)?;
-    let played = words::things(records.len() as u64 - refused, "play");
-    let others = words::things(others, "other record");
-    out.line(&format!("{played}, {refused} refused, {others} skipped; wrote {}", out_path.display()));
-    if let Some(path) = &journal_path {
-        let plays = words::things(journal.plays().unwrap_or(0), "play");
-        out.line(&format!("journal {} holds {plays}", path.display()));
+    if asked.dry_run {
+        return playing.end_dry(asked.journal.as_deref());
     }
-    Ok(if refused == 0 { FINE } else { REFUSED })
+    let Playing { journal, tally, out, .. } = playing;
+    asked.write(&sheet, &journal, continued, tally, out, &mut progress)
 }
 
-/// Plays the record and says so; false where it is refused.
-fn play_one(
-    sheet: &mut Sheet,
-    journal: &mut Journal,
-    path: &Path,
-    record: &Record,
-    clip: Clip,
-    brush: u32,
-    out: &mut Out,
-) -> Result<bool, String> {
-    let place = format!("{}: offset {}: {}", path.display(), record.offset, record_types::named(record.kind));
-    match journal.play(&mut sheet.surface, record.bytes, clip, brush) {
-        Ok(pixels) => {
-            out.line(&format!("{place}: {}", words::things(pixels.into(), "pixel")));
-            Ok(true)
+impl Asked {
+    fn of(parsed: &Arguments) -> Result<Asked, String> {
+        let (sheet, emfs) = match &parsed.plain[..] {
+            [sheet, emfs @ ..] if !emfs.is_empty() => (sheet.clone(), emfs.to_vec()),
+            _ => return Err(KNOWN.wrong("play needs a sheet and one or more EMF files")),
+        };
+        let asked = Asked {
+            sheet,
+            emfs,
+            out: parsed.path("-o"),
+            journal: parsed.path("--journal"),
+            clip: parsed.text("--clip").map(|text| arguments::clip(&text)).transpose()?,
+            brush: parsed.text("--brush").map_or(Ok(0), |text| arguments::brush(&text))?,
+            choice: Choice::parse(parsed.text("--only").as_deref(), parsed.text("--skip").as_deref())?,
+            force: parsed.has("--force"),
+            strict: parsed.has("--strict"),
+            dry_run: parsed.has("--dry-run"),
+        };
+        if asked.out.is_none() && !asked.dry_run {
+            return Err(KNOWN.wrong("-o OUT is missing"));
         }
-        Err(NO_ROOM) => Err(full(&place)),
-        Err(status) => {
-            complain(&format!("{place}: refused and skipped, {}", words::numbered(status)));
-            Ok(false)
+        if asked.choice.is_given() && asked.emfs.len() > 1 {
+            return Err(KNOWN.wrong("--only and --skip number the records of one EMF file, and there are more"));
         }
+        Ok(asked)
+    }
+
+    /// No file may be written over another that is still needed; only the sheet itself may be OUT, under --force.
+    fn check_names(&self) -> Result<(), String> {
+        let both = |one: &Path, other: &Path, what: &str| match files::same(one, other) {
+            true => Err(format!("{} cannot be {what} at once", one.display())),
+            false => Ok(()),
+        };
+        if let Some(out) = &self.out {
+            sheet_files::format(out)?;
+            for emf in &self.emfs {
+                both(emf, out, "an EMF file and OUT")?;
+            }
+        }
+        if let Some(journal) = &self.journal {
+            if let Some(out) = &self.out {
+                both(journal, out, "the journal and OUT")?;
+            }
+            both(journal, &self.sheet, "the journal and the sheet")?;
+            for emf in &self.emfs {
+                both(journal, emf, "the journal and an EMF file")?;
+            }
+        }
+        self.out.as_ref().map_or(Ok(()), |out| files::check_free(out, self.force))
+    }
+
+    /// The records to play, each with its file. All that is not honoured is told and counted.
+    fn records<'a>(&'a self, files: &'a [Vec<u8>], tally: &mut Tally) -> Result<Vec<(&'a Path, Listed<'a>)>, String> {
+        let mut records = Vec::new();
+        for (path, bytes) in self.emfs.iter().zip(files) {
+            let survey = emf_files::survey(path, bytes, self.brush, |number| self.choice.has(number))?;
+            self.choice.check(survey.records.len()).map_err(|words| format!("{}: {words}", path.display()))?;
+            for listed in survey.records {
+                match listed.fate {
+                    Fate::Played => records.push((path.as_path(), listed)),
+                    Fate::LeftOut => tally.left_out += 1,
+                    Fate::Skipped => tally.skipped += 1,
+                    Fate::Refused(status) => {
+                        tally.refused += 1;
+                        let why = reasons::refused(listed.record.bytes, status);
+                        complain(&format!("{}: {}: refused, {why}", path.display(), listed.name()));
+                    }
+                }
+            }
+            for words in survey.warnings {
+                tally.warn(&format!("{}: {words}", path.display()));
+            }
+        }
+        Ok(records)
+    }
+
+    fn write(
+        &self,
+        sheet: &Sheet,
+        journal: &Journal,
+        continued: bool,
+        mut tally: Tally,
+        out: &mut Out,
+        progress: &mut Progress,
+    ) -> Result<u8, String> {
+        let Some(out_path) = &self.out else {
+            return Err(KNOWN.wrong("-o OUT is missing"));
+        };
+        let over = continued || self.force;
+        write_both(sheet, out_path, self.force, journal, self.journal.as_deref(), over, progress)?;
+        for lost in sheet_files::lost(sheet, out_path) {
+            tally.warn(&format!("{}: {lost} of the sheet is not kept in a .bmp file", out_path.display()));
+        }
+        if let Some(path) = &self.journal {
+            let plays = words::things(journal.plays().unwrap_or(0), "play");
+            out.line(&format!("journal {} holds {plays}", path.display()));
+        }
+        out.line(&format!("{}; wrote {}", tally.line(), out_path.display()));
+        Ok(tally.code())
     }
 }
 
-/// No file may be written over another that is still needed; only the sheet itself may be OUT, under --force.
-fn check_names(sheet: &Path, emfs: &[PathBuf], out: &Path, journal: Option<&Path>) -> Result<(), String> {
-    let both = |one: &Path, other: &Path, what: &str| match files::same(one, other) {
-        true => Err(format!("{} cannot be {what} at once", one.display())),
-        false => Ok(()),
-    };
-    for emf in emfs {
-        both(emf, out, "an EMF file and OUT")?;
-    }
-    if let Some(journal) = journal {
-        both(journal, out, "the journal and OUT")?;
-        both(journal, sheet, "the journal and the sheet")?;
-        for emf in emfs {
-            both(journal, emf, "the journal and an EMF file")?;
-        }
-    }
-    Ok(())
+fn whole(sheet: &Sheet) -> Clip {
+    Clip { left: 0, top: 0, right: sheet.surface.width as i32, bottom: sheet.surface.height as i32 }
 }
 
 /// The journal, and whether it is one that was there.
@@ -148,9 +224,4 @@ fn open_journal(path: &Path, sheet: &Sheet, force: bool) -> Result<(Journal, boo
         Err(Refusal::Unfit(words)) => Err(format!("{words}; --force begins it anew")),
         Err(foreign) => Err(foreign.words()),
     }
-}
-
-fn full(place: &str) -> String {
-    let most = words::count(MOST_JOURNAL as u64);
-    format!("{place}: {}; it would need more than {most} records. Nothing was written", words::numbered(NO_ROOM))
 }

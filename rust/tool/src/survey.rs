@@ -1,0 +1,203 @@
+//! A file's bitmap records in order, and what else in it is not honoured.
+
+use std::collections::BTreeMap;
+
+use crate::bytes::u32_at;
+use crate::device::{At, Brush, Device};
+use crate::emf::{self, Damage, Record};
+use crate::facts::Facts;
+use crate::library::{self, Which};
+use crate::record_types::{self, EOF, HEADER};
+use crate::words;
+
+const BEGINPATH: u32 = 59;
+const ENDPATH: u32 = 60;
+const ABORTPATH: u32 = 68;
+const COMMENT: u32 = 70;
+/// "EMF+", at byte 12 of a comment that holds EMF+ records.
+const EMF_PLUS: u32 = 0x2B46_4D45;
+
+/// What becomes of a bitmap record.
+#[derive(Clone, Copy, Debug, PartialEq, Eq)]
+pub enum Fate {
+    Played,
+    /// The library refuses it with this status.
+    Refused(u32),
+    /// Its type is not played.
+    Skipped,
+    /// The user does not want it.
+    LeftOut,
+}
+
+/// One bitmap record.
+#[derive(Clone, Copy, Debug)]
+pub struct Listed<'a> {
+    /// Among the file's bitmap records, from 1 on.
+    pub number: usize,
+    pub record: Record<'a>,
+    pub fate: Fate,
+}
+
+impl Listed<'_> {
+    /// The record in words, without its file.
+    pub fn name(&self) -> String {
+        format!("record {} at offset {}: {}", self.number, self.record.offset, record_types::named(self.record.kind))
+    }
+}
+
+pub struct Survey<'a> {
+    pub records: Vec<Listed<'a>>,
+    /// How many records are no bitmap records, beside header and EOF.
+    pub others: u64,
+    /// One line for each thing that is not honoured, without the file's name.
+    pub warnings: Vec<String>,
+}
+
+/// Walks the file. `brush` is the colour that plays will use; `wanted` says which numbers are to be played.
+pub fn survey(bytes: &[u8], brush: u32, wanted: impl Fn(usize) -> bool) -> Result<Survey<'_>, Damage> {
+    let mut seen = Seen::new(brush);
+    let mut walk = emf::walk(bytes);
+    for step in walk.by_ref() {
+        let record = step?;
+        if record_types::is_bitmap(record.kind) {
+            seen.bitmap(record, &wanted);
+        } else if record.kind != HEADER && record.kind != EOF {
+            seen.other(&record);
+        }
+    }
+    Ok(seen.end(walk.left()))
+}
+
+/// What the walk has come by.
+struct Seen<'a> {
+    brush: u32,
+    device: Device,
+    records: Vec<Listed<'a>>,
+    /// Records that set what is not honoured: in words, and the bitmap records at which it is in force.
+    settings: BTreeMap<At, (String, Vec<usize>)>,
+    skipped: BTreeMap<u32, Vec<usize>>,
+    drawing: BTreeMap<u32, u64>,
+    unknown: u64,
+    emf_plus: u64,
+    in_path: bool,
+    others: u64,
+}
+
+impl<'a> Seen<'a> {
+    fn new(brush: u32) -> Seen<'a> {
+        Seen {
+            brush,
+            device: Device::new(),
+            records: Vec::new(),
+            settings: BTreeMap::new(),
+            skipped: BTreeMap::new(),
+            drawing: BTreeMap::new(),
+            unknown: 0,
+            emf_plus: 0,
+            in_path: false,
+            others: 0,
+        }
+    }
+
+    fn bitmap(&mut self, record: Record<'a>, wanted: &impl Fn(usize) -> bool) {
+        let number = self.records.len() + 1;
+        let fate = fate(&record, wanted(number));
+        match fate {
+            Fate::Played => self.settings_at(number, &record),
+            Fate::Skipped => self.skipped.entry(record.kind).or_default().push(number),
+            Fate::Refused(_) | Fate::LeftOut => {}
+        }
+        self.records.push(Listed { number, record, fate });
+    }
+
+    /// Notes what is in force at a record that is played.
+    fn settings_at(&mut self, number: usize, record: &Record) {
+        let facts = Facts::read(record.bytes);
+        let mut found = Vec::new();
+        for (at, words) in self.device.mapping() {
+            found.push((at, format!("{words} is not honoured; coordinates are taken as sheet pixels")));
+        }
+        for at in self.device.clips() {
+            found.push((at, "the file's clip is not honoured; only --clip is".to_string()));
+        }
+        if let Some((at, words)) = self.device.stretch().filter(|_| stretches(&facts)) {
+            found.push((at, format!("{words} is not honoured; pixels are left out or repeated")));
+        }
+        if let Some((at, words)) = self.other_brush().filter(|_| facts.uses_brush()) {
+            found.push((at, words));
+        }
+        for (at, words) in found {
+            self.settings.entry(at).or_insert((words, Vec::new())).1.push(number);
+        }
+    }
+
+    /// The brush that the file selects, where it is not the one that is used.
+    fn other_brush(&self) -> Option<(At, String)> {
+        let used = self.brush & 0xFF_FFFF;
+        match self.device.brush()? {
+            (_, Brush::Solid(colour)) if colour == used => None,
+            (at, Brush::Solid(colour)) => Some((
+                at,
+                format!("the file's brush {colour:06X} is not used, but {used:06X}; --brush {colour:06X} would use it"),
+            )),
+            (at, Brush::Other(words)) => Some((at, format!("the file selects {words}, but {used:06X} is used"))),
+        }
+    }
+
+    fn other(&mut self, record: &Record) {
+        self.others += 1;
+        match record.kind {
+            BEGINPATH => self.in_path = true,
+            ENDPATH | ABORTPATH => self.in_path = false,
+            COMMENT => self.emf_plus += u64::from(u32_at(record.bytes, 12) == Some(EMF_PLUS)),
+            // Inside a path nothing is drawn yet.
+            kind if record_types::draws_otherwise(kind) && !self.in_path => *self.drawing.entry(kind).or_default() += 1,
+            kind => self.unknown += u64::from(!record_types::is_known(kind)),
+        }
+        self.device.take(record);
+    }
+
+    fn end(self, behind: usize) -> Survey<'a> {
+        let mut warnings = Vec::new();
+        for (at, (words, numbers)) in &self.settings {
+            let (name, records) = (record_types::name(at.kind), words::records(numbers));
+            warnings.push(format!("offset {}: {name}, in force at {records}: {words}", at.offset));
+        }
+        for (kind, numbers) in &self.skipped {
+            let (count, name) = (words::things(numbers.len() as u64, "record"), record_types::named(*kind));
+            warnings.push(format!("{count} of type {name} not played: {}", words::records(numbers)));
+        }
+        if !self.drawing.is_empty() {
+            let each = |(kind, count): (&u32, &u64)| format!("{} {}", record_types::name(*kind), words::count(*count));
+            let count = words::things(self.drawing.values().sum(), "record");
+            let kinds: Vec<String> = self.drawing.iter().map(each).collect();
+            warnings.push(format!("{count} with lines, shapes or text not played: {}", kinds.join(", ")));
+        }
+        if self.emf_plus > 0 {
+            let count = words::things(self.emf_plus, "EMF+ comment");
+            warnings.push(format!("{count} not played: what stands only there is not drawn"));
+        }
+        if self.unknown > 0 {
+            warnings.push(format!("{} of unknown types not played", words::things(self.unknown, "record")));
+        }
+        if self.records.is_empty() {
+            warnings.push("no bitmap record: nothing of this file is drawn".to_string());
+        }
+        // They do no harm, but whoever made the file may have meant them to be played.
+        if behind > 0 {
+            warnings.push(format!("{} behind the EOF record not looked at", words::things(behind as u64, "byte")));
+        }
+        Survey { records: self.records, others: self.others, warnings }
+    }
+}
+
+fn fate(record: &Record, wanted: bool) -> Fate {
+    if !wanted {
+        return Fate::LeftOut;
+    }
+    if !record.is_played() {
+        return Fate::Skipped;
+    }
+    // A reading judges the whole record, by the rules by which a play does.
+    library::read(record.bytes, Which::Source).map_or_else(Fate::Refused, |_| Fate::Played)
+}
