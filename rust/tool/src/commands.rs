@@ -1,11 +1,14 @@
 //! The commands. Each gives the exit code: 0 all went well, 2 a record was refused; an error in words becomes 1.
 
 mod arguments;
+mod choice;
 mod emf_files;
 mod info;
 mod output;
 mod play;
+mod playing;
 mod results;
+mod tally;
 mod undo;
 
 use std::ffi::OsString;

@@ -12,14 +12,20 @@ pub mod record_types;
 pub mod words;
 
 pub mod emf;
+pub mod facts;
+pub mod file_kinds;
 pub mod files;
+pub mod reach;
+pub mod reasons;
 pub mod sheet;
 pub mod zlib;
 
 pub mod bmp;
+pub mod device;
 pub mod journal;
 pub mod png;
 
 pub mod sheet_files;
+pub mod survey;
 
 pub mod commands;

@@ -94,3 +94,39 @@ impl Nothing {
         }
     }
 }
+
+#[cfg(test)]
+mod tests {
+    use super::*;
+    use crate::journal::Journal;
+    use crate::library::Surface;
+    use records::{operation, Record, STRETCHDIBITS};
+
+    /// Some thousand plays of the library: it counts what is said here.
+    #[test]
+    fn the_library_counts_as_many() {
+        let mut seed = 12_345_u32;
+        let mut number = |below: i32| {
+            seed = seed.wrapping_mul(1_664_525).wrapping_add(1_013_904_223);
+            (seed >> 8) as i32 % below
+        };
+        let mut seen = [0; 5];
+        for _ in 0..4_000 {
+            let bounds = [number(16) - 4, number(12) - 4, number(24) - 4, number(24) - 4];
+            let clip = Clip { left: number(9) - 3, top: number(7) - 3, right: number(20), bottom: number(20) };
+            let (x, y, cx, cy) = (number(40) - 15, number(40) - 15, number(30) - 10 | 1, number(30) - 10 | 1);
+            let mut record = Record::new(STRETCHDIBITS, [x, y, cx, cy], operation::rop(0xF0)).bytes();
+            for (place, value) in bounds.iter().enumerate() {
+                record[8 + 4 * place..12 + 4 * place].copy_from_slice(&value.to_le_bytes());
+            }
+            let mut surface = Surface { width: 12, height: 9, pixels: vec![0; 108] };
+            let counted = Journal::new().play(&mut surface, &record, clip, 1).unwrap();
+            let target = Area::of([x + cx.min(0), y + cy.min(0), x + cx.max(0), y + cy.max(0)].map(i64::from));
+            let said = reach(bounds, target, Area::cut(clip, 12, 9));
+            assert_eq!(said.unwrap_or(0), u64::from(counted));
+            assert_eq!(said.is_err(), counted == 0);
+            seen[said.map_or_else(|nothing| nothing as usize, |_| 4)] += 1;
+        }
+        assert!(seen.iter().all(|count| *count > 100), "{seen:?}");
+    }
+}

@@ -5,8 +5,9 @@ use std::collections::BTreeMap;
 use crate::bytes::u32_at;
 use crate::device::{At, Brush, Device};
 use crate::emf::{self, Damage, Record};
-use crate::facts::Facts;
+use crate::facts::{Facts, Rectangle, Target};
 use crate::library::{self, Which};
+use crate::reach::{reach, Area};
 use crate::record_types::{self, EOF, HEADER};
 use crate::words;
 
@@ -42,6 +43,13 @@ impl Listed<'_> {
     /// The record in words, without its file.
     pub fn name(&self) -> String {
         format!("record {} at offset {}: {}", self.number, self.record.offset, record_types::named(self.record.kind))
+    }
+
+    /// How many pixels a play of it counts under this cut clip, or why none. None where the record is too short to tell.
+    pub fn reach(&self, clip: Area) -> Option<Result<u64, String>> {
+        let bounds = self.record.bounds()?;
+        let target = Area::of(Facts::read(self.record.bytes).target_rectangle()?);
+        Some(reach(bounds, target, clip).map_err(|nothing| nothing.words(bounds, target, clip)))
     }
 }
 
@@ -200,4 +208,13 @@ fn fate(record: &Record, wanted: bool) -> Fate {
     }
     // A reading judges the whole record, by the rules by which a play does.
     library::read(record.bytes, Which::Source).map_or_else(Fate::Refused, |_| Fate::Played)
+}
+
+/// Whether source and target differ in extent.
+fn stretches(facts: &Facts) -> bool {
+    let size = |rectangle: Rectangle| [rectangle.cx.unsigned_abs(), rectangle.cy.unsigned_abs()];
+    match (facts.source, facts.source_rectangle, facts.target) {
+        (Some(_), Some(source), Some(Target::Rectangle(target))) => size(source) != size(target),
+        _ => false,
+    }
 }

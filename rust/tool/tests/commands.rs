@@ -131,8 +131,8 @@ fn plays_draw_what_the_records_say() {
     let before = folder.get_sheet("sheet.png");
     folder.put("one.emf", &emf(&[brush_record([2, 3, 10, 10])]));
     let ended = folder.run("play sheet.png one.emf -o out.png --brush #3060C0 --clip=-9,5,6,7").expect(0);
-    assert!(ended.out.contains("one.emf: offset 88: stretched DIB (EMR_STRETCHDIBITS, 0x51): 8 pixels\n"), "{ended:?}");
-    assert!(ended.out.contains("1 play, 0 refused, 0 other records skipped; wrote out.png"));
+    assert!(ended.out.contains("one.emf: record 1 at offset 88: stretched DIB (EMR_STRETCHDIBITS, 0x51): 8 pixels\n"), "{ended:?}");
+    assert!(ended.out.contains("1 played, 0 drew nothing, 0 refused, 0 skipped; wrote out.png"));
     assert!(ended.err.is_empty());
     let after = folder.get_sheet("out.png");
     for y in 0..30 {
@@ -165,7 +165,7 @@ fn undo_gives_the_sheet_back() {
     for (sheet, ending) in [("sheet.png", "png"), ("sheet.bmp", "bmp"), ("deep.bmp", "bmp")] {
         let run = |text: &str| folder.run(&text.replace("EXT", ending));
         let ended = run(&format!("play {sheet} a.emf b.emf -o after.EXT --journal j --brush 905010")).expect(0);
-        assert!(ended.out.contains("4 plays, 0 refused, 1 other record skipped"));
+        assert!(ended.out.contains("4 played, 0 drew nothing, 0 refused, 0 skipped"));
         assert!(ended.out.contains("journal j holds 4 plays"));
         assert_ne!(folder.get(&format!("after.{ending}")), folder.get(sheet));
         let ended = run("undo after.EXT --journal j -o undone.EXT --all").expect(0);
@@ -189,7 +189,7 @@ fn a_journal_is_continued() {
     let folder = prepared("a_journal_is_continued");
     folder.run("play sheet.png a.emf -o 1.bmp --journal j").expect(0);
     let ended = folder.run("play 1.bmp b.emf -o 2.png --journal j --brush 777777").expect(0);
-    assert!(ended.out.contains("2 plays, 0 refused") && ended.out.contains("journal j holds 4 plays"));
+    assert!(ended.out.contains("2 played, 0 drew nothing, 0 refused") && ended.out.contains("journal j holds 4 plays"));
     let journal = folder.get("j");
     folder.run("undo 2.png --journal j -o 3.png --plays 5").fails("j holds 4 plays, fewer than the 5 asked for");
     assert!(folder.get("j") == journal && !folder.has("3.png"));
@@ -211,8 +211,8 @@ fn refused_records_are_skipped() {
     let ended = folder.run("play sheet.png refused.emf b.emf -o out.png --journal j").expect(2);
     assert!(ended
         .err
-        .contains("refused.emf: offset 168: alpha blend (EMR_ALPHABLEND, 0x72): refused and skipped, status 11: "));
-    assert!(ended.out.contains("4 plays, 1 refused"));
+        .contains("refused.emf: record 2 at offset 168: alpha blend (EMR_ALPHABLEND, 0x72): refused, status 11: "));
+    assert!(ended.out.contains("4 played, 0 drew nothing, 1 refused, 0 skipped"));
     folder.run("undo out.png --journal j -o undone.png --all").expect(0);
     assert_eq!(folder.get("undone.png"), folder.get("sheet.png"));
     assert_eq!(folder.names().iter().filter(|name| name.contains("tmp")).count(), 0);
@@ -301,7 +301,8 @@ fn a_full_journal_is_an_error() {
     folder.put("a.emf", &emf(&[brush_record([0, 0, 4096, 4096]), brush_record([0, 0, 4096, 4096])]));
     let ended = folder.run("play sheet.bmp a.emf -o out.bmp --journal j").expect(1);
     assert!(ended.err.contains("status 14: the journal has no room"), "{ended:?}");
-    assert!(ended.err.contains("more than 20,000,000 records. Nothing was written"));
+    assert!(ended.err.contains("it needs 10,649,601 records, and 9,350,399 of 20,000,000 are free. Nothing was written"));
+    assert!(ended.err.contains("--new-journal"));
     assert_eq!(folder.names(), ["a.emf", "sheet.bmp"]);
     folder.run("play sheet.bmp a.emf -o out.bmp").expect(0);
 }

@@ -11,8 +11,6 @@ use common::*;
 /// lines on standard error, in order, each by words that stand in it.
 struct Case(&'static str, i32, [u32; 4], &'static [&'static str]);
 
-const PIXELS: &str = "is not honoured; coordinates are taken as sheet pixels";
-
 const CASES: &[Case] = &[
     Case("good", 0, [3, 0, 0, 0], &[]),
     Case(
@@ -54,7 +52,7 @@ const CASES: &[Case] = &[
         "scaled-window",
         3,
         [1, 0, 0, 0],
-        &["offset 132: EMR_SCALEWINDOWEXTEX, in force at record 1: a window of 80 by 90 on a viewport", "SETVIEWPORTEXTEX"],
+        &["EMR_SETVIEWPORTEXTEX", "offset 132: EMR_SCALEWINDOWEXTEX, in force at record 1: a window of 80 by 90 on a viewport"],
     ),
     Case("twips", 3, [1, 0, 0, 0], &["offset 88: EMR_SETMAPMODE, in force at record 1: mapping mode MM_TWIPS is not"]),
     Case("anisotropic", 3, [1, 0, 0, 0], &["mapping mode MM_ANISOTROPIC is not honoured"]),
@@ -220,11 +218,11 @@ fn info_tells_it_before() {
     assert_eq!(folder.names(), before);
 }
 
-/// The file's own brush and clip, given by hand, are no longer warned about where they can be given.
+/// The file's own brush, given by hand, is no longer warned about.
 #[test]
 fn a_brush_that_is_used_is_no_warning() {
     let folder = prepared("a_brush_that_is_used_is_no_warning");
-    let ended = folder.run("play sheet.png brush.emf -o out.png --brush FF8000").expect(0);
+    let ended = folder.run("play sheet.png brush.emf -o out.png --brush FF8000 --only 1").expect(0);
     assert!(ended.err.is_empty(), "{ended:?}");
-    assert_eq!(folder.get_sheet("out.png").surface.pixels[4 * 40 + 3] & 0xFF_FFFF, 0x0064_C8 | 0x00_0000);
+    assert_eq!(folder.get_sheet("out.png").surface.pixels[4 * 40 + 3] & 0xFF_FFFF, 0xFF_8000);
 }

@@ -100,8 +100,8 @@ pub fn run(arguments: &[OsString], out: &mut Out) -> Result<u8, String> {
     if asked.dry_run {
         return playing.end_dry(asked.journal.as_deref());
     }
-    let Playing { journal, tally, out, .. } = playing;
-    asked.write(&sheet, &journal, continued, tally, out, &mut progress)
+    let Playing { sheet, journal, tally, out, .. } = playing;
+    asked.write(sheet, &journal, continued, tally, out, &mut progress)
 }
 
 impl Asked {

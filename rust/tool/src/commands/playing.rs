@@ -7,9 +7,8 @@ use face::Clip;
 
 use super::output::{Out, ERROR};
 use super::tally::Tally;
-use crate::facts::Facts;
 use crate::journal::Journal;
-use crate::reach::{reach, Area};
+use crate::reach::Area;
 use crate::sheet::Sheet;
 use crate::survey::Listed;
 use crate::words;
@@ -59,13 +58,9 @@ impl Playing<'_> {
         self.tally.warn(&format!("{place}: accepted, but it draws nothing: {why}"));
     }
 
-    /// How many pixels the record reaches here, or why none; None for one too short to tell.
     fn reach(&self, listed: &Listed) -> Option<Result<u64, String>> {
         let surface = &self.sheet.surface;
-        let clip = Area::cut(self.clip, surface.width, surface.height);
-        let target = Area::of(Facts::read(listed.record.bytes).target_rectangle()?);
-        let bounds = listed.record.bounds()?;
-        Some(reach(bounds, target, clip).map_err(|nothing| nothing.words(bounds, target, clip)))
+        listed.reach(Area::cut(self.clip, surface.width, surface.height))
     }
 
     fn full(&self, place: &str, listed: &Listed) -> String {

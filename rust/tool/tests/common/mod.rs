@@ -136,9 +136,16 @@ pub fn mask_record(area: Area) -> Vec<u8> {
     Record::new(MASKBLT, area, rop4(0xF0, 0xAA)).masked([0, 0], mask).bytes()
 }
 
-/// A record of a type that is not played (EMR_SETMAPMODE).
+/// A record that sets nothing new (EMR_SETMAPMODE, MM_TEXT).
 pub fn other_record() -> Vec<u8> {
     words(&[17, 12, 1])
+}
+
+/// EMR_BITBLT without a source: the brush over the whole sheet, if it were played.
+pub fn bitblt_record() -> Vec<u8> {
+    let mut fields = vec![0x4C, 100, 0, 0, 4095, 4095, 0, 0, 4096, 4096, 0x00F0_0021];
+    fields.resize(25, 0);
+    words(&fields)
 }
 
 /// A whole file: header, these records, EOF.

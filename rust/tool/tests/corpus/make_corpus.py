@@ -9,7 +9,7 @@ import sys
 
 BITBLT, STRETCHBLT, MASKBLT, PLGBLT, SETDIBITSTODEVICE, STRETCHDIBITS = range(0x4C, 0x52)
 ALPHABLEND, TRANSPARENTBLT = 0x72, 0x74
-SRCCOPY, PATCOPY, PATINVERT, DSTINVERT = 0x00CC0020, 0x00F00021, 0x005A0049, 0x00550009
+SRCCOPY, PATCOPY, DSTINVERT = 0x00CC0020, 0x00F00021, 0x00550009
 IDENTITY = (1.0, 0.0, 0.0, 1.0, 0.0, 0.0)
 OVER_ALL = (0, 0, 4095, 4095)
 # What Inkscape and libUEMF write where they do not know the bounds.
@@ -172,7 +172,7 @@ FILES = {
     # Brushes.
     "brush": [brush(1, 0x000080FF), select(1), stretch(HERE, None, rop=PATCOPY), stretch(HERE)],
     "brush-hatched": [brush(1, 0x000080FF, 2), select(1), mask(HERE)],
-    "brush-stock": [select(0x80000000), stretch(HERE, None, rop=PATINVERT)],
+    "brush-stock": [select(0x80000000), stretch(HERE, None, rop=PATCOPY)],
     "brush-unused": [brush(1, 0x000080FF), select(1), stretch(HERE), stretch(HERE, None, rop=DSTINVERT)],
     "stretch-mode": [record(21, 4), stretch(HERE), stretch((0, 0, 2, 1))],
     # Records that are not played.
