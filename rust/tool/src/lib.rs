@@ -6,12 +6,14 @@
 
 pub mod bytes;
 pub mod crc;
+pub mod json;
 pub mod library;
 pub mod progress;
 pub mod record_types;
 pub mod words;
 
 pub mod emf;
+pub mod facts;
 pub mod files;
 pub mod sheet;
 pub mod zlib;
@@ -19,6 +21,7 @@ pub mod zlib;
 pub mod bmp;
 pub mod journal;
 pub mod png;
+pub mod reasons;
 
 pub mod sheet_files;
 

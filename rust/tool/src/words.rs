@@ -48,6 +48,16 @@ pub fn things(number: u64, one: &str) -> String {
     format!("{} {one}{}", count(number), if number == 1 { "" } else { "s" })
 }
 
+/// A float as short as it can be told from all others; very small and very large ones with an exponent.
+pub fn float(number: f32) -> String {
+    let size = number.abs();
+    if size == 0.0 || (1e-4..1e7).contains(&size) {
+        number.to_string()
+    } else {
+        format!("{number:e}")
+    }
+}
+
 #[cfg(test)]
 mod tests {
     use super::*;
@@ -69,5 +79,11 @@ mod tests {
         assert_eq!(count(20_000_000), "20,000,000");
         assert_eq!(things(1, "play"), "1 play");
         assert_eq!(things(0, "play"), "0 plays");
+    }
+
+    #[test]
+    fn floats() {
+        let told = [1.0, -0.5, 0.1, -0.0, 16_777_216.0, f32::from_bits(1), f32::NAN, f32::NEG_INFINITY].map(float);
+        assert_eq!(told, ["1", "-0.5", "0.1", "-0", "1.6777216e7", "1e-45", "NaN", "-inf"]);
     }
 }
