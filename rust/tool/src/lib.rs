@@ -6,6 +6,7 @@
 
 pub mod bytes;
 pub mod crc;
+pub mod json;
 pub mod library;
 pub mod progress;
 pub mod record_types;
@@ -16,7 +17,6 @@ pub mod facts;
 pub mod file_kinds;
 pub mod files;
 pub mod reach;
-pub mod reasons;
 pub mod sheet;
 pub mod zlib;
 
@@ -24,6 +24,7 @@ pub mod bmp;
 pub mod device;
 pub mod journal;
 pub mod png;
+pub mod reasons;
 
 pub mod sheet_files;
 pub mod survey;

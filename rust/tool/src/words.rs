@@ -66,6 +66,16 @@ pub fn records(numbers: &[usize]) -> String {
     format!("record{} {}", if numbers.len() == 1 { "" } else { "s" }, spans.join(", "))
 }
 
+/// A float as short as it can be told from all others; very small and very large ones with an exponent.
+pub fn float(number: f32) -> String {
+    let size = number.abs();
+    if size == 0.0 || (1e-4..1e7).contains(&size) {
+        number.to_string()
+    } else {
+        format!("{number:e}")
+    }
+}
+
 #[cfg(test)]
 mod tests {
     use super::*;
@@ -94,5 +104,11 @@ mod tests {
         assert_eq!(records(&[3]), "record 3");
         assert_eq!(records(&[1, 2]), "records 1, 2");
         assert_eq!(records(&[1, 2, 3, 4, 7, 9, 10]), "records 1 to 4, 7, 9, 10");
+    }
+
+    #[test]
+    fn floats() {
+        let told = [1.0, -0.5, 0.1, -0.0, 16_777_216.0, f32::from_bits(1), f32::NAN, f32::NEG_INFINITY].map(float);
+        assert_eq!(told, ["1", "-0.5", "0.1", "-0", "1.6777216e7", "1e-45", "NaN", "-inf"]);
     }
 }
