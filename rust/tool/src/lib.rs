@@ -14,7 +14,6 @@ pub mod words;
 pub mod emf;
 pub mod files;
 pub mod sheet;
-pub mod zlib;
 
 pub mod bmp;
 pub mod journal;
