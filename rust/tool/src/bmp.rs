@@ -2,7 +2,7 @@
 
 use crate::bytes::{i32_at, u16_at, u32_at};
 use crate::library::Surface;
-use crate::sheet::{check_sides, pixel, Sheet};
+use crate::sheet::{check_sides, pixel, Extras, Resolution, Sheet};
 
 /// The file header; the bitmap header follows.
 const FILE_HEADER: usize = 14;
@@ -63,7 +63,8 @@ pub fn read(bytes: &[u8]) -> Result<Sheet, String> {
             pixels.push(pixel(alpha, red, green, blue));
         }
     }
-    Ok(Sheet { surface: Surface { width: width as u32, height: rows, pixels }, deep: bits == 32 })
+    let extras = Extras { resolution: Resolution::new(header(24)?, header(28)?), chunks: Vec::new() };
+    Ok(Sheet { surface: Surface { width: width as u32, height: rows, pixels }, deep: bits == 32, extras })
 }
 
 /// Which byte of a pixel each mask stands for; only an alpha mask may be 0.
@@ -96,8 +97,9 @@ pub fn write(sheet: &Sheet) -> Vec<u8> {
     numbers(&mut out, &[bits_at + size as u32, 0, bits_at, length as u32, surface.width, surface.height]);
     // One plane, and the bits above it.
     numbers(&mut out, &[1 | (step as u32 * 8) << 16, if deep { BI_BITFIELDS } else { BI_RGB }, size as u32]);
-    // No resolution, no colour table.
-    numbers(&mut out, &[0, 0, 0, 0]);
+    let (across, down) = sheet.extras.resolution.map_or((0, 0), |found| (found.across, found.down));
+    // No colour table behind the resolution.
+    numbers(&mut out, &[across, down, 0, 0]);
     if deep {
         numbers(&mut out, &MASKS);
         numbers(&mut out, &[SRGB]);
@@ -120,7 +122,7 @@ mod tests {
     fn sheet(width: u32, height: u32, deep: bool) -> Sheet {
         let solid = if deep { 0 } else { 0xFF00_0000 };
         let pixels = (0..width * height).map(|at| at.wrapping_mul(2_654_435_761) | solid).collect();
-        Sheet { surface: Surface { width, height, pixels }, deep }
+        Sheet::new(Surface { width, height, pixels }, deep)
     }
 
     #[test]
@@ -135,6 +137,29 @@ mod tests {
                 assert_eq!((&back.surface, back.deep), (&sheet.surface, deep));
                 assert_eq!(write(&back), bytes);
             }
+        }
+    }
+
+    #[test]
+    fn the_resolution_comes_back() {
+        for deep in [false, true] {
+            let mut sheet = sheet(3, 2, deep);
+            assert_eq!(write(&sheet)[38..46], [0; 8]);
+            sheet.extras.resolution = Resolution::new(2835, 0x7FFF_FFFF);
+            let bytes = write(&sheet);
+            assert_eq!((u32_at(&bytes, 38), u32_at(&bytes, 42)), (Some(2835), Some(0x7FFF_FFFF)));
+            let back = read(&bytes).unwrap();
+            assert_eq!(back.extras, sheet.extras);
+            assert_eq!(write(&back), bytes);
+        }
+    }
+
+    #[test]
+    fn a_resolution_below_one_says_nothing() {
+        for numbers in [[0, 5], [5, 0], [-5, 5], [5, -5]] {
+            let mut bytes = write(&sheet(2, 2, false));
+            bytes[38..46].copy_from_slice(&numbers.map(i32::to_le_bytes).concat());
+            assert_eq!(read(&bytes).unwrap().extras, Extras::default());
         }
     }
 

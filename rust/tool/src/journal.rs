@@ -156,7 +156,7 @@ mod tests {
     const WHOLE: Clip = Clip { left: 0, top: 0, right: 4, bottom: 2 };
 
     fn sheet() -> Sheet {
-        Sheet { surface: Surface { width: 4, height: 2, pixels: (1..9).collect() }, deep: true }
+        Sheet::new(Surface { width: 4, height: 2, pixels: (1..9).collect() }, true)
     }
 
     /// The brush over a target from the corner on.

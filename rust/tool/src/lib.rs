@@ -18,7 +18,6 @@ pub mod file_kinds;
 pub mod files;
 pub mod reach;
 pub mod sheet;
-pub mod zlib;
 
 pub mod bmp;
 pub mod device;

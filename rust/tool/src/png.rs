@@ -1,262 +1,115 @@
-//! PNG sheets: 8 bits a channel, not interlaced, are read; RGBA is written.
+//! PNG sheets, by libpng: all forms of up to 8 bits a channel are read; RGBA is written. What a file says of its colours,
+//! its resolution and in texts is kept.
+
+use png_shim::{Chunk, Reader};
 
 use crate::bytes::u32_big_at;
-use crate::crc::Crc;
 use crate::library::Surface;
 use crate::progress::Progress;
-use crate::sheet::{check_sides, pixel, Sheet};
-use crate::zlib;
+use crate::sheet::{check_sides, Extras, Resolution, Sheet};
 
 const SIGNATURE: &[u8; 8] = b"\x89PNG\r\n\x1a\n";
-
-/// The colour types, with how many bytes a pixel has.
-#[derive(Clone, Copy, PartialEq, Eq)]
-enum Colours {
-    Grey,
-    Rgb,
-    Palette,
-    GreyAlpha,
-    Rgba,
-}
-
-impl Colours {
-    fn of(number: u8) -> Option<Colours> {
-        match number {
-            0 => Some(Colours::Grey),
-            2 => Some(Colours::Rgb),
-            3 => Some(Colours::Palette),
-            4 => Some(Colours::GreyAlpha),
-            6 => Some(Colours::Rgba),
-            _ => None,
-        }
-    }
-
-    fn bytes(self) -> usize {
-        match self {
-            Colours::Grey | Colours::Palette => 1,
-            Colours::GreyAlpha => 2,
-            Colours::Rgb => 3,
-            Colours::Rgba => 4,
-        }
-    }
-}
-
-struct Header {
-    width: u32,
-    height: u32,
-    colours: Colours,
-}
+/// pHYs counts in metres; 0 there gives the pixels' shape only.
+const METRE: u8 = 1;
 
 pub fn read(bytes: &[u8], work: &str, progress: &mut Progress) -> Result<Sheet, String> {
     if !bytes.starts_with(SIGNATURE) {
         return Err("this is no PNG file: it does not begin as one".to_string());
     }
-    let mut header: Option<Header> = None;
-    let mut palette: &[u8] = &[];
-    let mut clear: &[u8] = &[];
-    let mut packed = Vec::new();
-    let mut at = SIGNATURE.len();
-    loop {
-        let (name, data) = chunk(bytes, at)?;
-        at += data.len() + 12;
-        match (name, &header) {
-            (b"IHDR", None) => header = Some(read_header(data)?),
-            (_, None) => return Err("the PNG file's first chunk is not IHDR".to_string()),
-            (b"IHDR", Some(_)) => return Err("the PNG file has two IHDR chunks".to_string()),
-            (b"PLTE", _) => palette = data,
-            (b"tRNS", _) => clear = data,
-            (b"IDAT", _) => packed.extend_from_slice(data),
-            (b"IEND", _) => break,
-            // A small first letter marks a chunk one may skip.
-            _ if name[0] & 0x20 == 0 => {
-                return Err(format!("the PNG file has a chunk {} that is not read", String::from_utf8_lossy(name)))
-            }
-            _ => {}
-        }
+    let damaged = |words| format!("the PNG file is damaged: {words}");
+    let reader = Reader::open(bytes).map_err(damaged)?;
+    let header = reader.header();
+    check_sides(header.width.into(), header.height.into())?;
+    if header.bits > 8 {
+        return Err(format!(
+            "the PNG file has {} bits a channel; only up to 8 are read: the colour is the measurement and would be rounded",
+            header.bits
+        ));
     }
-    let header = header.ok_or("the PNG file has no IHDR chunk")?;
-    if header.colours == Colours::Palette && (palette.is_empty() || palette.len() % 3 != 0 || palette.len() > 768) {
-        return Err("the PNG file's palette is absent or not 1 to 256 colours".to_string());
-    }
-    let row = header.width as usize * header.colours.bytes();
-    let mut rows = zlib::inflate(&packed, (row + 1) * header.height as usize, work, progress)?;
-    unfilter(&mut rows, row, header.colours.bytes())?;
-    let mut pixels = Vec::with_capacity(header.width as usize * header.height as usize);
-    for line in rows.chunks_exact(row + 1) {
-        for point in line[1..].chunks_exact(header.colours.bytes()) {
-            pixels.push(colour(header.colours, point, palette, clear)?);
-        }
-    }
-    Ok(Sheet { surface: Surface { width: header.width, height: header.height, pixels }, deep: false })
+    let mut pixels = vec![0; header.width as usize * header.height as usize];
+    let chunks = reader.read(&mut pixels, &mut |done, total| progress.tell(work, done, total)).map_err(damaged)?;
+    check_chunks(&chunks).map_err(damaged)?;
+    let surface = Surface { width: header.width, height: header.height, pixels };
+    Ok(Sheet { surface, deep: false, extras: extras(chunks) })
 }
 
-/// The chunk at this place: its name and data.
-fn chunk(bytes: &[u8], at: usize) -> Result<(&[u8; 4], &[u8]), String> {
-    let cut_off = || "the PNG file is cut off".to_string();
-    let length = u32_big_at(bytes, at).ok_or_else(cut_off)? as usize;
-    let named = bytes.get(at + 4..at + 8 + length).ok_or_else(cut_off)?;
-    let sum = u32_big_at(bytes, at + 8 + length).ok_or_else(cut_off)?;
-    let (name, data) = named.split_first_chunk::<4>().ok_or_else(cut_off)?;
-    if crate::crc::of(named) != sum {
-        return Err(format!("the PNG file's chunk {} at offset {at} has a wrong checksum", name.escape_ascii()));
-    }
-    Ok((name, data))
+/// The bytes of a file. The same sheet gives the same bytes.
+pub fn write(sheet: &Sheet, work: &str, progress: &mut Progress) -> Result<Vec<u8>, String> {
+    let mut chunks: Vec<Chunk> = sheet.extras.resolution.map(resolution_chunk).into_iter().collect();
+    chunks.extend_from_slice(&sheet.extras.chunks);
+    let surface = &sheet.surface;
+    png_shim::write(surface.width, &surface.pixels, &chunks, &mut |done, total| progress.tell(work, done, total))
 }
 
-fn read_header(data: &[u8]) -> Result<Header, String> {
-    let (width, height) = (u32_big_at(data, 0), u32_big_at(data, 4));
-    let (Some(width), Some(height), &[depth, colours, packing, filtering, interlace]) =
-        (width, height, &data[8.min(data.len())..])
-    else {
-        return Err("the PNG file's IHDR chunk does not have 13 bytes".to_string());
-    };
-    check_sides(width.into(), height.into())?;
-    let colours = Colours::of(colours).ok_or_else(|| format!("the PNG file has an unknown colour type {colours}"))?;
-    if depth != 8 {
-        return Err(format!("the PNG file has {depth} bits a channel; only 8 are read"));
-    }
-    if packing != 0 || filtering != 0 {
-        return Err("the PNG file is packed or filtered in an unknown way".to_string());
-    }
-    match interlace {
-        0 => Ok(Header { width, height, colours }),
-        1 => Err("the PNG file is interlaced; only plain ones are read".to_string()),
-        _ => Err(format!("the PNG file has an unknown interlace method {interlace}")),
+/// How long a chunk is that stands once and before the pixels, where its length is fixed. None for texts.
+fn single(name: &[u8; 4]) -> Option<Option<usize>> {
+    match name {
+        b"gAMA" => Some(Some(4)),
+        b"cHRM" => Some(Some(32)),
+        b"sRGB" => Some(Some(1)),
+        b"pHYs" => Some(Some(9)),
+        b"iCCP" => Some(None),
+        _ => None,
     }
 }
 
-/// Takes the row filters off, in place. Each row has its filter's number before it.
-fn unfilter(rows: &mut [u8], row: usize, step: usize) -> Result<(), String> {
-    let mut above = vec![0; row];
-    for line in rows.chunks_exact_mut(row + 1) {
-        let (filter, line) = (line[0], &mut line[1..]);
-        match filter {
-            0 => {}
-            1 => {
-                for at in step..row {
-                    line[at] = line[at].wrapping_add(line[at - step]);
-                }
-            }
-            2 => {
-                for at in 0..row {
-                    line[at] = line[at].wrapping_add(above[at]);
-                }
-            }
-            3 => {
-                for at in 0..row {
-                    let left = if at < step { 0 } else { line[at - step] };
-                    line[at] = line[at].wrapping_add(average(left, above[at]));
-                }
-            }
-            4 => {
-                for at in 0..row {
-                    let (left, corner) = if at < step { (0, 0) } else { (line[at - step], above[at - step]) };
-                    line[at] = line[at].wrapping_add(paeth(left, above[at], corner));
-                }
-            }
-            _ => return Err(format!("the PNG file has a row with an unknown filter {filter}")),
+/// The library hands these chunks over as they are; one that is out of order is not carried on.
+fn check_chunks(chunks: &[Chunk]) -> Result<(), String> {
+    for (at, chunk) in chunks.iter().enumerate() {
+        let Some(length) = single(&chunk.name) else { continue };
+        let name = String::from_utf8_lossy(&chunk.name);
+        if length.is_some_and(|length| length != chunk.data.len()) {
+            return Err(format!("{name}: it has {} bytes", chunk.data.len()));
         }
-        above.copy_from_slice(line);
+        if chunk.behind {
+            return Err(format!("{name}: it stands behind the pixels"));
+        }
+        if chunks[..at].iter().any(|other| other.name == chunk.name) {
+            return Err(format!("{name}: there are two"));
+        }
     }
     Ok(())
 }
 
-fn average(left: u8, above: u8) -> u8 {
-    ((left as u16 + above as u16) / 2) as u8
-}
-
-/// The neighbour nearest to left + above - corner.
-fn paeth(left: u8, above: u8, corner: u8) -> u8 {
-    let (a, b, c) = (left as i32, above as i32, corner as i32);
-    let (to_a, to_b, to_c) = ((b - c).abs(), (a - c).abs(), (a + b - 2 * c).abs());
-    if to_a <= to_b && to_a <= to_c {
-        left
-    } else if to_b <= to_c {
-        above
-    } else {
-        corner
+/// Takes the resolution out of the chunks, if it is one that BMP files can say, too.
+fn extras(mut chunks: Vec<Chunk>) -> Extras {
+    let resolution = chunks.iter().find_map(resolution);
+    if resolution.is_some() {
+        chunks.retain(|chunk| chunk.name != *b"pHYs");
     }
+    Extras { resolution, chunks }
 }
 
-/// One pixel. `clear` is the tRNS chunk: alphas of the palette, or the one colour that is clear.
-fn colour(colours: Colours, point: &[u8], palette: &[u8], clear: &[u8]) -> Result<u32, String> {
-    // tRNS has 16 bits a channel, big-endian; the high byte is 0 at 8 bits.
-    let is_clear = || {
-        !clear.is_empty() && clear.len() == 2 * point.len() && {
-            clear.chunks_exact(2).zip(point).all(|(key, byte)| key == [0, *byte])
-        }
-    };
-    Ok(match *point {
-        [index] if colours == Colours::Palette => {
-            let at = index as usize * 3;
-            let entry = palette
-                .get(at..at + 3)
-                .ok_or_else(|| format!("a pixel names colour {index}, which is not in the palette"))?;
-            pixel(clear.get(index as usize).copied().unwrap_or(255), entry[0], entry[1], entry[2])
-        }
-        [grey] => pixel(if is_clear() { 0 } else { 255 }, grey, grey, grey),
-        [grey, alpha] => pixel(alpha, grey, grey, grey),
-        [red, green, blue] => pixel(if is_clear() { 0 } else { 255 }, red, green, blue),
-        [red, green, blue, alpha] => pixel(alpha, red, green, blue),
-        _ => 0,
-    })
-}
-
-pub fn write(sheet: &Sheet, work: &str, progress: &mut Progress) -> Vec<u8> {
-    let surface = &sheet.surface;
-    let mut out = SIGNATURE.to_vec();
-    let mut header = [surface.width.to_be_bytes(), surface.height.to_be_bytes()].concat();
-    header.extend([8, 6, 0, 0, 0]);
-    put_chunk(&mut out, b"IHDR", &header);
-    put_chunk(&mut out, b"IDAT", &zlib::deflate(&filtered(surface), work, progress));
-    put_chunk(&mut out, b"IEND", &[]);
-    out
-}
-
-fn put_chunk(out: &mut Vec<u8>, name: &[u8; 4], data: &[u8]) {
-    let mut crc = Crc::new();
-    crc.add(name);
-    crc.add(data);
-    out.extend((data.len() as u32).to_be_bytes());
-    out.extend(name);
-    out.extend(data);
-    out.extend(crc.sum().to_be_bytes());
-}
-
-/// All rows as RGBA, each under the filter that leaves the smallest numbers, which pack best.
-fn filtered(surface: &Surface) -> Vec<u8> {
-    const STEP: usize = 4;
-    let row = surface.width as usize * STEP;
-    let mut out = Vec::with_capacity((row + 1) * surface.height as usize);
-    // A pixel of zeros to the left of each row, so that its first pixel needs no case of its own.
-    let mut above = vec![0; STEP + row];
-    let mut line = vec![0; STEP + row];
-    let mut tries = [(); 5].map(|_| vec![0; row]);
-    for pixels in surface.pixels.chunks_exact(surface.width.max(1) as usize) {
-        for (place, pixel) in line[STEP..].chunks_exact_mut(STEP).zip(pixels) {
-            let [blue, green, red, alpha] = pixel.to_le_bytes();
-            place.copy_from_slice(&[red, green, blue, alpha]);
-        }
-        for at in 0..row {
-            let (here, left, up, corner) = (line[STEP + at], line[at], above[STEP + at], above[at]);
-            tries[0][at] = here;
-            tries[1][at] = here.wrapping_sub(left);
-            tries[2][at] = here.wrapping_sub(up);
-            tries[3][at] = here.wrapping_sub(average(left, up));
-            tries[4][at] = here.wrapping_sub(paeth(left, up, corner));
-        }
-        let size = |bytes: &Vec<u8>| bytes.iter().map(|&byte| (byte as i8).unsigned_abs() as u64).sum::<u64>();
-        let best = (0..tries.len()).min_by_key(|&filter| size(&tries[filter])).unwrap_or(0);
-        out.push(best as u8);
-        out.extend_from_slice(&tries[best]);
-        std::mem::swap(&mut above, &mut line);
+fn resolution(chunk: &Chunk) -> Option<Resolution> {
+    if chunk.name != *b"pHYs" || chunk.data.get(8) != Some(&METRE) {
+        return None;
     }
-    out
+    Resolution::new(u32_big_at(&chunk.data, 0)?, u32_big_at(&chunk.data, 4)?)
+}
+
+fn resolution_chunk(resolution: Resolution) -> Chunk {
+    let mut data = [resolution.across.to_be_bytes(), resolution.down.to_be_bytes()].concat();
+    data.push(METRE);
+    Chunk { name: *b"pHYs", data, behind: false }
+}
+
+/// What a kept chunk says, in words.
+pub fn meaning(name: &[u8; 4]) -> &'static str {
+    match name {
+        b"gAMA" => "the gamma (gAMA)",
+        b"cHRM" => "the primaries (cHRM)",
+        b"sRGB" => "the sRGB mark (sRGB)",
+        b"iCCP" => "the colour profile (iCCP)",
+        b"pHYs" => "the pixels' shape (pHYs)",
+        _ => "texts (tEXt, zTXt, iTXt)",
+    }
 }
 
 #[cfg(test)]
 mod tests {
     use super::*;
+    use crate::sheet::pixel;
+    use crate::{bmp, crc};
 
     const WIDTH: u32 = 61;
     const HEIGHT: u32 = 37;
@@ -266,7 +119,7 @@ mod tests {
     }
 
     fn save(sheet: &Sheet) -> Vec<u8> {
-        write(sheet, "", &mut Progress::quiet())
+        write(sheet, "", &mut Progress::quiet()).unwrap()
     }
 
     // The rules of tests/fixtures/make_fixtures.py.
@@ -308,8 +161,11 @@ mod tests {
             let (x, y) = (at as u32 % WIDTH, at as u32 / WIDTH);
             assert_eq!(pixel, rule(x, y), "{x}, {y}");
         }
-        // What was read comes back from the tool's own writing.
-        assert_eq!(load(&save(&sheet)).unwrap().surface, sheet.surface);
+        // What was read comes back from the tool's own writing, which is the same the second time.
+        let saved = save(&sheet);
+        let back = load(&saved).unwrap();
+        assert_eq!((&back.surface, &back.extras), (&sheet.surface, &sheet.extras));
+        assert_eq!(save(&back), saved);
     }
 
     macro_rules! fixture {
@@ -359,6 +215,94 @@ mod tests {
     }
 
     #[test]
+    fn few_bits() {
+        let few =
+            |bits: u32| move |x, y| shade(255, ((grey(x, y) >> (8 - bits)) as u32 * 255 / ((1 << bits) - 1)) as u8);
+        same(fixture!("grey-1"), few(1));
+        same(fixture!("grey-2"), few(2));
+        same(fixture!("grey-4"), few(4));
+        let named = |bits: u32| {
+            move |x, y| match index(x, y) % (1 << bits) {
+                0 => entry(9, 0),
+                other => entry(255, other),
+            }
+        };
+        same(fixture!("palette-1"), named(1));
+        same(fixture!("palette-2"), named(2));
+        same(fixture!("palette-4"), named(4));
+        same(fixture!("grey-1-interlaced"), few(1));
+        same(fixture!("grey-2-interlaced"), few(2));
+        same(fixture!("grey-4-interlaced"), few(4));
+        same(fixture!("palette-2-interlaced"), |x, y| entry(255, index(x, y) % 4));
+    }
+
+    #[test]
+    fn interlaced() {
+        same(fixture!("rgb-interlaced"), rgb);
+        same(fixture!("rgba-interlaced"), rgba);
+        same(fixture!("palette-interlaced"), |x, y| {
+            let i = index(x, y);
+            entry(if i < 20 { 255 - i as u8 * 5 } else { 255 }, i)
+        });
+    }
+
+    #[test]
+    fn more_bits_are_refused() {
+        for bytes in [&fixture!("rgb-16")[..], fixture!("grey-16")] {
+            let words = load(bytes).err().unwrap();
+            assert!(
+                words.starts_with("the PNG file has 16 bits a channel; only up to 8 are read: the colour"),
+                "{words}"
+            );
+        }
+    }
+
+    /// All chunks of a file: name, data and whether IDAT came before.
+    fn chunks_of(bytes: &[u8]) -> Vec<Chunk> {
+        let (mut at, mut behind, mut chunks) = (SIGNATURE.len(), false, Vec::new());
+        while at < bytes.len() {
+            let length = u32_big_at(bytes, at).unwrap() as usize;
+            let name = bytes[at + 4..at + 8].try_into().unwrap();
+            behind |= &name == b"IDAT";
+            chunks.push(Chunk { name, data: bytes[at + 8..at + 8 + length].to_vec(), behind });
+            at += length + 12;
+        }
+        chunks
+    }
+
+    /// Each kept chunk is in the file that is written, as it was and in its order; the others are not.
+    #[test]
+    fn what_is_said_beside_the_pixels_is_kept() {
+        let names = [b"gAMA", b"cHRM", b"sRGB", b"iCCP", b"pHYs", b"tEXt", b"zTXt", b"iTXt"];
+        let mut seen = Vec::new();
+        for bytes in [&fixture!("metadata-srgb")[..], fixture!("metadata-icc")] {
+            let is_kept = |chunk: &Chunk| names.contains(&&chunk.name);
+            let mut before: Vec<Chunk> = chunks_of(bytes).into_iter().filter(is_kept).collect();
+            let after: Vec<Chunk> = chunks_of(&save(&load(bytes).unwrap())).into_iter().filter(is_kept).collect();
+            // The resolution goes to the front, because BMP files have it as well.
+            before.sort_by_key(|chunk| chunk.name != *b"pHYs");
+            assert_eq!(before, after);
+            seen.extend(after.iter().map(|chunk| chunk.name));
+        }
+        assert!(names.iter().all(|name| seen.contains(name)));
+        let sheet = load(fixture!("metadata-srgb")).unwrap();
+        assert_eq!(sheet.extras.resolution, Resolution::new(5000, 4000));
+        let others: Vec<[u8; 4]> = chunks_of(&save(&sheet)).iter().map(|chunk| chunk.name).collect();
+        assert!(!others.contains(b"tIME") && others.ends_with(&[*b"IDAT", *b"iTXt", *b"IEND"]));
+    }
+
+    #[test]
+    fn the_resolution_goes_through_bmp_files() {
+        let mut sheet = load(fixture!("metadata-srgb")).unwrap();
+        let through = bmp::read(&bmp::write(&sheet)).unwrap();
+        let back = load(&save(&through)).unwrap();
+        assert_eq!(back.extras, Extras { resolution: Resolution::new(5000, 4000), chunks: Vec::new() });
+        sheet.extras = load(fixture!("metadata-icc")).unwrap().extras;
+        assert_eq!(sheet.extras.resolution, None);
+        assert_eq!(bmp::read(&bmp::write(&sheet)).unwrap().extras, Extras::default());
+    }
+
+    #[test]
     fn all_sizes_come_back() {
         for (width, height) in [(1, 1), (1, 9), (9, 1), (3, 2), (300, 200), (4096, 2), (2, 4096)] {
             let noise = |at: u32| at.wrapping_mul(2_654_435_761) ^ at.wrapping_mul(40_503) >> 7;
@@ -371,7 +315,7 @@ mod tests {
                     }
                 };
                 let pixels: Vec<u32> = (0..width * height).map(value).collect();
-                let sheet = Sheet { surface: Surface { width, height, pixels }, deep: false };
+                let sheet = Sheet::new(Surface { width, height, pixels }, false);
                 let bytes = save(&sheet);
                 assert_eq!(load(&bytes).unwrap().surface, sheet.surface);
                 assert_eq!(bytes, save(&sheet));
@@ -379,50 +323,140 @@ mod tests {
         }
     }
 
-    /// A small file with its IHDR chunk as given and one chunk before IDAT.
-    fn built(header: &[u8], name: &[u8; 4], data: &[u8]) -> Vec<u8> {
+    /// A file of these chunks.
+    fn file(chunks: &[(&[u8; 4], &[u8])]) -> Vec<u8> {
         let mut out = SIGNATURE.to_vec();
-        put_chunk(&mut out, b"IHDR", header);
-        put_chunk(&mut out, name, data);
-        put_chunk(&mut out, b"IDAT", &zlib::deflate(&[0, 9], "", &mut Progress::quiet()));
-        put_chunk(&mut out, b"IEND", b"");
+        for (name, data) in chunks {
+            out.extend((data.len() as u32).to_be_bytes());
+            let named = [&name[..], data].concat();
+            out.extend(&named);
+            out.extend(crc::of(&named).to_be_bytes());
+        }
         out
+    }
+
+    /// zlib's form of these bytes, not packed.
+    fn stored(bytes: &[u8]) -> Vec<u8> {
+        let (mut a, mut b) = (1u32, 0u32);
+        for &byte in bytes {
+            a = (a + byte as u32) % 65_521;
+            b = (b + a) % 65_521;
+        }
+        let length = bytes.len() as u16;
+        let mut out = vec![0x78, 1, 1];
+        out.extend(length.to_le_bytes());
+        out.extend((!length).to_le_bytes());
+        out.extend(bytes);
+        out.extend((b << 16 | a).to_be_bytes());
+        out
+    }
+
+    fn header(depth: u8, colours: u8, interlace: u8) -> [u8; 13] {
+        [0, 0, 0, 1, 0, 0, 0, 1, depth, colours, 0, 0, interlace]
+    }
+
+    /// One pixel, 9, with its IHDR chunk as given and one chunk before IDAT.
+    fn built(header: &[u8], name: &[u8; 4], data: &[u8]) -> Vec<u8> {
+        file(&[(b"IHDR", header), (name, data), (b"IDAT", &stored(&[0, 9])), (b"IEND", b"")])
+    }
+
+    #[track_caller]
+    fn refused(bytes: &[u8], words: &str) {
+        let said = load(bytes).err().unwrap();
+        assert!(said.contains(words), "{said}");
     }
 
     #[test]
     fn what_is_not_read_is_said() {
-        let header = |depth, colours, interlace| [0, 0, 0, 1, 0, 0, 0, 1, depth, colours, 0, 0, interlace];
-        let says = |bytes: Vec<u8>| load(&bytes).err().unwrap();
-        assert_eq!(load(&built(&header(8, 0, 0), b"pHYs", b"")).unwrap().surface.pixels, [0xFF09_0909]);
-        assert!(says(built(&header(16, 0, 0), b"pHYs", b"")).contains("16 bits a channel"));
-        assert!(says(built(&header(8, 5, 0), b"pHYs", b"")).contains("colour type 5"));
-        assert!(says(built(&header(8, 0, 1), b"pHYs", b"")).contains("interlaced"));
-        assert!(says(built(&header(8, 0, 0), b"NewC", b"")).contains("chunk NewC"));
-        assert!(says(built(&header(8, 0, 0), b"IHDR", &header(8, 0, 0))).contains("two IHDR"));
-        assert!(says(built(&header(8, 0, 0)[..12], b"pHYs", b"")).contains("13 bytes"));
-        assert!(says(built(&[0, 0, 16, 1, 0, 0, 0, 1, 8, 0, 0, 0, 0], b"pHYs", b"")).contains("4097 by 1"));
-        assert!(says(built(&[0, 0, 0, 1, 0, 0, 0, 0, 8, 0, 0, 0, 0], b"pHYs", b"")).contains("1 by 0"));
-        assert!(says(built(&header(8, 3, 0), b"pHYs", b"")).contains("palette is absent"));
-        assert!(says(built(&header(8, 3, 0), b"PLTE", &[1, 2, 3])).contains("colour 9"));
-        assert!(says(built(&header(8, 2, 0), b"pHYs", b"")).contains("gives 2 bytes and should give 4"));
-        assert!(says(b"BM".to_vec()).contains("no PNG file"));
-        let mut filter = SIGNATURE.to_vec();
-        put_chunk(&mut filter, b"IHDR", &header(8, 0, 0));
-        put_chunk(&mut filter, b"IDAT", &zlib::deflate(&[5, 9], "", &mut Progress::quiet()));
-        put_chunk(&mut filter, b"IEND", b"");
-        assert!(says(filter).contains("unknown filter 5"));
+        let grey = header(8, 0, 0);
+        assert_eq!(load(&built(&grey, b"tIME", b"")).unwrap().surface.pixels, [0xFF09_0909]);
+        refused(b"BM", "no PNG file");
+        refused(&built(&header(16, 0, 0), b"tIME", b""), "16 bits a channel");
+        refused(&built(&[0, 0, 16, 1, 0, 0, 0, 1, 8, 0, 0, 0, 0], b"tIME", b""), "4097 by 1");
+        refused(&built(&[0, 0, 0, 1, 0x7F, 0xFF, 0xFF, 0xFF, 8, 0, 0, 0, 0], b"tIME", b""), "1 by 2147483647");
+        let damaged = |bytes: &[u8], words: &str| refused(bytes, &format!("the PNG file is damaged: {words}"));
+        damaged(&built(&[0, 0, 0, 1, 0, 0, 0, 0, 8, 0, 0, 0, 0], b"tIME", b""), "Image height is zero in IHDR");
+        damaged(&built(&header(8, 5, 0), b"tIME", b""), "Invalid color type in IHDR");
+        damaged(&built(&header(8, 0, 2), b"tIME", b""), "Unknown interlace method in IHDR");
+        damaged(&built(&header(3, 0, 0), b"tIME", b""), "Invalid bit depth in IHDR");
+        damaged(&built(&grey, b"NewC", b""), "NewC: unhandled critical chunk");
+        damaged(&built(&grey, b"IHDR", &grey), "IHDR: out of place");
+        damaged(&built(&grey[..12], b"tIME", b""), "IHDR: invalid");
+        damaged(&built(&header(8, 3, 0), b"tIME", b""), "IDAT: Missing PLTE before IDAT");
+        damaged(&built(&header(8, 3, 0), b"PLTE", &[1, 2, 3]), "a pixel names a colour that is not in the palette");
+        damaged(&file(&[(b"IHDR", &grey), (b"IEND", b"")]), "IEND: out of place");
+        damaged(&file(&[(b"IHDR", &grey), (b"IDAT", &stored(&[5, 9])), (b"IEND", b"")]), "bad adaptive filter value");
+    }
+
+    #[test]
+    fn wrong_image_data() {
+        let grey = header(8, 0, 0);
+        let with = |pixels: &[u8]| file(&[(b"IHDR", &grey), (b"IDAT", pixels), (b"IEND", b"")]);
+        let good = stored(&[0, 9]);
+        assert!(load(&with(&good)).is_ok());
+        refused(&with(&stored(&[0])), "Not enough image data");
+        refused(&with(&stored(&[0, 9, 9])), "Too much image data");
+        for length in 0..good.len() {
+            assert!(load(&with(&good[..length])).is_err(), "{length} bytes");
+        }
+        refused(&with(&[&good[..], &[0]].concat()), "Extra compressed data");
+        for place in 0..good.len() {
+            let mut wrong = good.clone();
+            wrong[place] ^= 0x44;
+            assert!(load(&with(&wrong)).is_err(), "byte {place}");
+        }
+    }
+
+    #[test]
+    fn kept_chunks_in_disorder() {
+        let grey = header(8, 0, 0);
+        for (name, length) in [(b"gAMA", 4), (b"cHRM", 32), (b"sRGB", 1), (b"pHYs", 9)] {
+            let said = String::from_utf8_lossy(name);
+            assert!(load(&built(&grey, name, &vec![0; length])).is_ok());
+            refused(&built(&grey, name, &vec![0; length - 1]), &format!("{said}: it has {} bytes", length - 1));
+            refused(&built(&grey, name, &vec![0; length + 1]), &format!("{said}: it has {} bytes", length + 1));
+            let (chunk, pixels) = (vec![0; length], stored(&[0, 9]));
+            let twice = [(b"IHDR", &grey[..]), (name, &chunk), (name, &chunk), (b"IDAT", &pixels), (b"IEND", &[])];
+            refused(&file(&twice), &format!("{said}: there are two"));
+            let late = [(b"IHDR", &grey[..]), (b"IDAT", &pixels), (name, &chunk), (b"IEND", &[])];
+            refused(&file(&late), &format!("{said}: it stands behind the pixels"));
+        }
+    }
+
+    /// A small file that says it is large, in pixels or in a text, gets no more memory than it has bytes.
+    #[test]
+    fn bombs() {
+        let grey = header(8, 0, 0);
+        // As zlib packs 16 MB of zeros: 258 bytes a bit or two.
+        let zeros = [&[0x78, 0xDA, 0xEC, 0xC1, 0x01, 0x01][..], &vec![0; 16_384], &[1, 2, 3, 4]].concat();
+        for (name, front) in [(b"zTXt", &b"bomb\0\0"[..]), (b"iCCP", b"bomb\0\0"), (b"iTXt", b"bomb\0\x01\0\0\0")] {
+            let data = [front, &zeros].concat();
+            let sheet = load(&built(&grey, name, &data)).unwrap();
+            assert_eq!(sheet.extras.chunks, [Chunk { name: *name, data, behind: false }]);
+        }
+        refused(&built(&grey, b"zTXt", &vec![0; 8_000_001]), "too large");
+        let texts: Vec<(&[u8; 4], &[u8])> = vec![(b"tEXt", b"a\0b"); 2000];
+        let pixels = stored(&[0, 9]);
+        let many = [vec![(b"IHDR", &grey[..])], texts, vec![(b"IDAT", &pixels), (b"IEND", b"")]].concat();
+        refused(&file(&many), "no space in chunk cache");
+        // More rows than the header says: it ends at the picture's last byte.
+        let long = file(&[(b"IHDR", &grey), (b"IDAT", &zeros), (b"IEND", b"")]);
+        assert!(load(&long).is_err());
     }
 
     #[test]
     fn every_cut_and_change_is_refused() {
-        let good = fixture!("rgb-paeth");
-        for length in 0..good.len() {
-            assert!(load(&good[..length]).is_err());
-        }
-        for place in 0..good.len() {
-            let mut wrong = good.to_vec();
-            wrong[place] ^= 0x10;
-            assert!(load(&wrong).is_err(), "byte {place}");
+        for good in [&fixture!("rgb-paeth")[..], fixture!("palette-2-interlaced"), fixture!("metadata-srgb")] {
+            for length in 0..good.len() {
+                assert!(load(&good[..length]).is_err());
+            }
+            for place in 0..good.len() {
+                for change in [1, 0x10, 0x20, 0x80, 0xFF] {
+                    let mut wrong = good.to_vec();
+                    wrong[place] ^= change;
+                    assert!(load(&wrong).is_err(), "byte {place}");
+                }
+            }
         }
     }
 }

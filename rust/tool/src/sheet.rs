@@ -1,6 +1,7 @@
 //! A sheet: the surface of an orthophoto.
 
 use face::constants::MOST_SIDE;
+use png_shim::Chunk;
 
 use crate::library::Surface;
 use crate::{crc, words};
@@ -9,9 +10,38 @@ pub struct Sheet {
     pub surface: Surface,
     /// Read from a BMP file of 32 bits. If it is written as a BMP, it has as many again.
     pub deep: bool,
+    pub extras: Extras,
+}
+
+/// What a sheet's file says beside its pixels.
+#[derive(Clone, Debug, Default, PartialEq, Eq)]
+pub struct Extras {
+    pub resolution: Option<Resolution>,
+    /// What only a PNG file can say: its chunks as they are, in order.
+    pub chunks: Vec<Chunk>,
+}
+
+/// Pixels per metre. PNG and BMP files can both say it.
+#[derive(Clone, Copy, Debug, PartialEq, Eq)]
+pub struct Resolution {
+    pub across: u32,
+    pub down: u32,
+}
+
+impl Resolution {
+    /// Both numbers are 1 to 2,147,483,647: 0 says nothing, and BMP's are signed.
+    pub fn new(across: u32, down: u32) -> Option<Resolution> {
+        let sound = |number| (1..=i32::MAX as u32).contains(&number);
+        (sound(across) && sound(down)).then_some(Resolution { across, down })
+    }
 }
 
 impl Sheet {
+    /// A sheet with nothing beside its pixels.
+    pub fn new(surface: Surface, deep: bool) -> Sheet {
+        Sheet { surface, deep, extras: Extras::default() }
+    }
+
     /// By this a journal knows its sheet.
     pub fn checksum(&self) -> u32 {
         crc::of_pixels(&self.surface.pixels)
@@ -40,5 +70,13 @@ mod tests {
         assert!(check_sides(1, 4096).is_ok());
         assert!(check_sides(0, 1).is_err());
         assert_eq!(check_sides(4097, 1).unwrap_err(), "the sheet is 4097 by 1 pixels; its sides may be 1 to 4,096");
+    }
+
+    #[test]
+    fn resolutions() {
+        assert_eq!(Resolution::new(1, 0x7FFF_FFFF), Some(Resolution { across: 1, down: 0x7FFF_FFFF }));
+        for (across, down) in [(0, 0), (0, 1), (1, 0), (0x8000_0000, 1), (1, 0x8000_0000)] {
+            assert_eq!(Resolution::new(across, down), None);
+        }
     }
 }

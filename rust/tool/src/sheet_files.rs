@@ -40,13 +40,42 @@ pub fn packed(sheet: &Sheet, path: &Path, progress: &mut Progress) -> Result<Vec
     let work = format!("packing {}", path.display());
     Ok(match format(path)? {
         Format::Bmp => bmp::write(sheet),
-        Format::Png => png::write(sheet, &work, progress),
+        Format::Png => {
+            png::write(sheet, &work, progress).map_err(|what| format!("cannot write {}: {what}", path.display()))?
+        }
     })
+}
+
+/// What the sheet's file says beside its pixels and a file of this name cannot, in words.
+pub fn lost(sheet: &Sheet, path: &Path) -> Vec<&'static str> {
+    let mut lost = Vec::new();
+    if format(path) != Ok(Format::Bmp) {
+        return lost;
+    }
+    for chunk in &sheet.extras.chunks {
+        let meaning = png::meaning(&chunk.name);
+        // There may be many texts.
+        if !lost.contains(&meaning) {
+            lost.push(meaning);
+        }
+    }
+    lost
 }
 
 #[cfg(test)]
 mod tests {
     use super::*;
+
+    #[test]
+    fn only_a_bmp_loses_what_png_files_say() {
+        let bytes = include_bytes!("../tests/fixtures/metadata-icc.png");
+        let sheet = png::read(bytes, "", &mut Progress::quiet()).unwrap();
+        assert!(lost(&sheet, Path::new("out.png")).is_empty());
+        let words = ["the pixels' shape (pHYs)", "the colour profile (iCCP)", "texts (tEXt, zTXt, iTXt)"];
+        assert_eq!(lost(&sheet, Path::new("out.bmp")), words);
+        let through_bmp = bmp::read(&bmp::write(&sheet)).unwrap();
+        assert!(lost(&through_bmp, Path::new("out.bmp")).is_empty());
+    }
 
     #[test]
     fn formats_by_extension() {

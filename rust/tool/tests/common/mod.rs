@@ -102,7 +102,7 @@ impl Ended {
 pub fn noisy_sheet(width: u32, height: u32, deep: bool) -> Sheet {
     let solid = if deep { 0 } else { 0xFF00_0000 };
     let pixels = (0..width * height).map(|at| (at + 7).wrapping_mul(2_654_435_761) | solid).collect();
-    Sheet { surface: Surface { width, height, pixels }, deep }
+    Sheet::new(Surface { width, height, pixels }, deep)
 }
 
 /// A rectangle: left, top, width, height.
