@@ -2,9 +2,13 @@
 
 use crate::bytes::{u16_at, u32_at};
 
+pub const EMF: &str = "an EMF file";
+pub const PNG: &str = "a PNG picture";
+pub const BMP: &str = "a BMP picture";
+
 /// How some kinds of files begin, and what they are called.
 const BEGINNINGS: [(&[u8], &str); 16] = [
-    (b"\x89PNG\r\n\x1a\n", "a PNG picture"),
+    (b"\x89PNG\r\n\x1a\n", PNG),
     (b"\xFF\xD8\xFF", "a JPEG picture"),
     (b"GIF8", "a GIF picture"),
     (b"II\x2A\x00", "a TIFF picture"),
@@ -25,7 +29,7 @@ const BEGINNINGS: [(&[u8], &str); 16] = [
 /// What the file is; None where its beginning tells nothing.
 pub fn kind(bytes: &[u8]) -> Option<&'static str> {
     if is_emf(bytes) {
-        return Some("an EMF file");
+        return Some(EMF);
     }
     if bytes.is_empty() {
         return Some("an empty file");
@@ -35,7 +39,7 @@ pub fn kind(bytes: &[u8]) -> Option<&'static str> {
     }
     // Two bytes are few, so the header behind them is looked at.
     if bytes.starts_with(b"BM") && u32_at(bytes, 14).is_some_and(|size| (12..=124).contains(&size)) {
-        return Some("a BMP picture");
+        return Some(BMP);
     }
     // A WMF file without a placeable header: type 1 or 2, a header of 9 words, version 1.0 or 3.0.
     let numbers = [0, 2, 4].map(|at| u16_at(bytes, at));
@@ -79,8 +83,8 @@ mod tests {
     #[test]
     fn mix_ups() {
         let png = b"\x89PNG\r\n\x1a\n";
-        assert_eq!(mixed_up(png, "an EMF file").unwrap(), "this is a PNG picture, not an EMF file");
-        assert_eq!(mixed_up(png, "a PNG picture"), None);
-        assert_eq!(mixed_up(b"snow", "an EMF file"), None);
+        assert_eq!(mixed_up(png, EMF).unwrap(), "this is a PNG picture, not an EMF file");
+        assert_eq!(mixed_up(png, PNG), None);
+        assert_eq!(mixed_up(b"snow", EMF), None);
     }
 }

@@ -2,6 +2,7 @@
 
 use std::path::Path;
 
+use crate::file_kinds::{self, BMP, EMF, PNG};
 use crate::progress::Progress;
 use crate::sheet::Sheet;
 use crate::{bmp, files, png};
@@ -24,9 +25,21 @@ pub fn format(path: &Path) -> Result<Format, String> {
     }
 }
 
+/// The format of a file that is there. One that is plainly something else than its name says is told so.
+fn checked_format(path: &Path, bytes: &[u8]) -> Result<Format, String> {
+    let words = match (file_kinds::kind(bytes), format(path)) {
+        (Some(PNG), Ok(Format::Bmp)) => format!("this is {PNG} under a .bmp name"),
+        (Some(BMP), Ok(Format::Png)) => format!("this is {BMP} under a .png name"),
+        (None | Some(PNG | BMP), by_name) => return by_name,
+        (Some(EMF), _) => format!("this is {EMF}, not a sheet; the sheet comes first"),
+        (Some(kind), _) => format!("this is {kind}; a sheet is a PNG or BMP picture"),
+    };
+    Err(format!("{}: {words}", path.display()))
+}
+
 pub fn load(path: &Path, progress: &mut Progress) -> Result<Sheet, String> {
-    let format = format(path)?;
     let bytes = files::read(path, MOST_BYTES)?;
+    let format = checked_format(path, &bytes)?;
     let work = format!("reading {}", path.display());
     let sheet = match format {
         Format::Bmp => bmp::read(&bytes),

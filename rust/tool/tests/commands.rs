@@ -52,7 +52,7 @@ fn wrong_use() {
     folder.run("play sheet.png a.emf -o out.png --quick").fails("there is no option --quick");
     folder.run("play none.png a.emf -o out.png").fails("cannot read none.png");
     folder.run("play sheet.png none.emf -o out.png").fails("cannot read none.emf");
-    folder.run("play a.emf a.emf -o out.png").fails(".png or .bmp");
+    folder.run("play a.emf a.emf -o out.png").fails("this is an EMF file, not a sheet");
     folder.run("play sheet.png a.emf -o nowhere/out.png").fails("cannot write nowhere/out.png");
     folder.run("undo sheet.png -o out.png").fails("--journal FILE is missing");
     folder.run("undo sheet.png --journal j").fails("-o OUT is missing");

@@ -10,7 +10,7 @@ const MOST_BYTES: u64 = 1 << 30;
 
 pub fn read(path: &Path) -> Result<Vec<u8>, String> {
     let bytes = files::read(path, MOST_BYTES)?;
-    match file_kinds::mixed_up(&bytes, "an EMF file") {
+    match file_kinds::mixed_up(&bytes, file_kinds::EMF) {
         Some(words) => Err(format!("{}: {words}", path.display())),
         None => Ok(bytes),
     }
