@@ -18,6 +18,8 @@ pub mod zlib;
 
 pub mod bmp;
 pub mod journal;
+pub mod lock;
+pub mod pending;
 pub mod png;
 
 pub mod sheet_files;

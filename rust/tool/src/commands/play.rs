@@ -9,17 +9,23 @@ use face::Clip;
 use super::arguments::{self, Known};
 use super::emf_files;
 use super::output::{complain, Out, FINE, REFUSED};
-use super::results::write_both;
+use super::recovery;
+use super::results::{write_both, Before, JournalFile, Picture};
 use crate::emf::Record;
 use crate::journal::{Journal, Refusal};
 use crate::progress::Progress;
 use crate::sheet::Sheet;
 use crate::{files, record_types, sheet_files, words};
 
-const KNOWN: Known = Known { command: "play", valued: &["-o", "--clip", "--brush", "--journal"], flags: &["--force"] };
+const KNOWN: Known = Known {
+    command: "play",
+    valued: &["-o", "--clip", "--brush", "--journal"],
+    flags: &["--force", "--new-journal", "--no-wait"],
+};
 
 const HELP: &str = "\
-lacrumont play SHEET FILE.emf [FILE.emf ..] -o OUT [--clip L,T,R,B] [--brush RRGGBB] [--journal FILE] [--force]
+lacrumont play SHEET FILE.emf [FILE.emf ..] -o OUT [--clip L,T,R,B] [--brush RRGGBB] [--force]
+               [--journal FILE] [--new-journal] [--no-wait]
 
 Plays every bitmap record of the files (alpha blend 0x72, mask blit 0x4E, stretched DIB 0x51) in order onto the sheet
 and writes OUT. A record that cannot be played is reported and skipped. OUT has the sheet's pixels and nothing else
@@ -28,9 +34,11 @@ of its file. A damaged EMF file is an error: then nothing is written.
   -o OUT           the file to write, .png or .bmp
   --clip L,T,R,B   only pixels inside are drawn; right and bottom are not included; without it, the whole sheet
   --brush RRGGBB   the brush's colour, six hexadecimal digits; without it, 000000
+  --force          writes over OUT if it is there and not read-only
   --journal FILE   keeps every old pixel in FILE, so that undo can take the plays back. A journal that is there and
-                   belongs to SHEET is continued; without one it is begun
-  --force          writes over OUT if it is there, and begins the journal anew if it is another sheet's
+                   belongs to SHEET is continued; without one it is begun. FILE.lock is there while a run has it
+  --new-journal    begins a journal; one that is there is kept beside it as FILE.1, FILE.2 and so on
+  --no-wait        an error if another run has the journal; without it, waits for that run
 
 Exit code: 0 all was played, 1 an error of files or use, 2 a record was refused.
 ";
@@ -50,15 +58,21 @@ pub fn run(arguments: &[OsString], out: &mut Out) -> Result<u8, String> {
     let brush = parsed.text("--brush").map_or(Ok(0), |text| arguments::brush(&text))?;
     let clip = parsed.text("--clip").map(|text| arguments::clip(&text)).transpose()?;
     let force = parsed.has("--force");
+    if parsed.has("--new-journal") && journal_path.is_none() {
+        return Err(KNOWN.wrong("--new-journal needs --journal FILE"));
+    }
     sheet_files::format(&out_path)?;
     check_names(sheet_path, emf_paths, &out_path, journal_path.as_deref())?;
     files::check_free(&out_path, force)?;
 
+    // Before the sheet is read, so that no other run writes it or the journal before this one has.
+    let take = |path: &PathBuf| recovery::lock(path, Some(&out_path), !parsed.has("--no-wait"));
+    let mut lock = journal_path.as_ref().map(take).transpose().map_err(|no| no.words)?;
     let mut progress = Progress::new();
     let mut sheet = sheet_files::load(sheet_path, &mut progress)?;
-    let (mut journal, continued) = match &journal_path {
-        Some(path) => open_journal(path, &sheet, force)?,
-        None => (Journal::new(), false),
+    let (mut journal, before) = match &journal_path {
+        Some(path) => open_journal(path, &sheet, parsed.has("--new-journal"))?,
+        None => (Journal::new(), Before::Absent),
     };
     // All files are read and walked before the first pixel is drawn, so that a damaged one changes nothing.
     let files: Vec<Vec<u8>> = emf_paths.iter().map(|path| emf_files::read(path)).collect::<Result<_, _>>()?;
@@ -80,7 +94,10 @@ pub fn run(arguments: &[OsString], out: &mut Out) -> Result<u8, String> {
         progress.tell("playing", done + 1, records.len());
     }
 
-    write_both(&sheet, &out_path, force, &journal, journal_path.as_deref(), continued || force, &mut progress)?;
+    let picture = Picture { sheet: &sheet, from: sheet_path, out: &out_path, force };
+    let file = journal_path.as_deref().zip(lock.as_mut());
+    let file = file.map(|(path, lock)| JournalFile { journal: &journal, path, before, lock });
+    write_both(picture, file, &mut progress)?;
     let played = words::things(records.len() as u64 - refused, "play");
     let others = words::things(others, "other record");
     out.line(&format!("{played}, {refused} refused, {others} skipped; wrote {}", out_path.display()));
@@ -134,18 +151,18 @@ fn check_names(sheet: &Path, emfs: &[PathBuf], out: &Path, journal: Option<&Path
     Ok(())
 }
 
-/// The journal, and whether it is one that was there.
-fn open_journal(path: &Path, sheet: &Sheet, force: bool) -> Result<(Journal, bool), String> {
+/// The journal that is there, or a new one, and what becomes of the file.
+fn open_journal(path: &Path, sheet: &Sheet, new: bool) -> Result<(Journal, Before), String> {
     if !files::exists(path) {
-        return Ok((Journal::new(), false));
+        return Ok((Journal::new(), Before::Absent));
+    }
+    files::check_replaceable(path)?;
+    if new && Journal::is_one(path)? {
+        return Ok((Journal::new(), Before::Kept));
     }
     match Journal::load(path, sheet) {
-        Ok(journal) => Ok((journal, true)),
-        Err(Refusal::Unfit(words)) if force => {
-            complain(&format!("{words}; begun anew"));
-            Ok((Journal::new(), false))
-        }
-        Err(Refusal::Unfit(words)) => Err(format!("{words}; --force begins it anew")),
+        Ok(journal) => Ok((journal, Before::Continued)),
+        Err(Refusal::Unfit(words)) => Err(format!("{words}; --new-journal begins one and keeps this one beside it")),
         Err(foreign) => Err(foreign.words()),
     }
 }
