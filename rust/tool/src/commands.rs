@@ -4,9 +4,11 @@ mod arguments;
 mod choice;
 mod emf_files;
 mod info;
+mod journal;
 mod output;
 mod play;
 mod playing;
+mod recovery;
 mod results;
 mod tally;
 mod undo;
@@ -21,10 +23,13 @@ and takes plays back.
 
   lacrumont info FILE.emf
       lists the file's bitmap records and says of each whether it can be played
-  lacrumont play SHEET FILE.emf [FILE.emf ..] -o OUT [--clip L,T,R,B] [--brush RRGGBB] [--journal FILE] [--force]
+  lacrumont play SHEET FILE.emf [FILE.emf ..] -o OUT [--clip L,T,R,B] [--brush RRGGBB] [--force]
+                 [--journal FILE] [--new-journal] [--no-wait]
       plays the files' bitmap records in order onto the sheet and writes OUT
-  lacrumont undo SHEET --journal FILE -o OUT [--plays N | --all] [--force]
+  lacrumont undo SHEET --journal FILE -o OUT [--plays N | --all] [--force] [--no-wait]
       takes plays back and writes OUT
+  lacrumont journal SHEET --journal FILE [--no-wait]
+      lists the plays in a journal
 
   lacrumont COMMAND --help   more on a command
   lacrumont --version        the version
@@ -46,12 +51,13 @@ pub fn run(arguments: Vec<OsString>) -> u8 {
 
 fn dispatch(arguments: &[OsString], out: &mut Out) -> Result<u8, String> {
     let Some((first, rest)) = arguments.split_first() else {
-        return Err("no command is given: info, play or undo; see lacrumont --help".to_string());
+        return Err("no command is given: info, play, undo or journal; see lacrumont --help".to_string());
     };
     match first.to_str() {
         Some("info") => info::run(rest, out),
         Some("play") => play::run(rest, out),
         Some("undo") => undo::run(rest, out),
+        Some("journal") => journal::run(rest, out),
         Some("--help" | "-h" | "help") => {
             out.text(HELP);
             Ok(FINE)

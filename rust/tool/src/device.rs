@@ -299,8 +299,16 @@ impl State {
 }
 
 fn mode_name(mode: u32) -> String {
-    let names =
-        ["MM_TEXT", "MM_LOMETRIC", "MM_HIMETRIC", "MM_LOENGLISH", "MM_HIENGLISH", "MM_TWIPS", "MM_ISOTROPIC", "MM_ANISOTROPIC"];
+    let names = [
+        "MM_TEXT",
+        "MM_LOMETRIC",
+        "MM_HIMETRIC",
+        "MM_LOENGLISH",
+        "MM_HIENGLISH",
+        "MM_TWIPS",
+        "MM_ISOTROPIC",
+        "MM_ANISOTROPIC",
+    ];
     match (mode as usize).checked_sub(1).and_then(|at| names.get(at)) {
         Some(name) => name.to_string(),
         None => words::count(mode.into()),

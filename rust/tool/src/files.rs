@@ -1,15 +1,12 @@
-//! Reading whole files, and writing them so that a failure leaves no half file.
+//! Reading whole files, and what must be known of a name before something is written there.
 
 use std::ffi::OsString;
 use std::fs::{self, File, OpenOptions};
-use std::io::{ErrorKind, Read, Write};
+use std::io::{self, ErrorKind, Read};
+use std::os::unix::fs::{MetadataExt, PermissionsExt};
 use std::path::{Path, PathBuf};
 
-use crate::progress::Progress;
 use crate::words;
-
-/// Bytes written at a time, so that progress can be told in between.
-const STRETCH: usize = 1 << 23;
 
 /// All bytes of a file that has `most` of them at most.
 pub fn read(path: &Path, most: u64) -> Result<Vec<u8>, String> {
@@ -30,11 +27,29 @@ pub fn exists(path: &Path) -> bool {
 
 /// A file that is there is only written over by --force.
 pub fn check_free(path: &Path, force: bool) -> Result<(), String> {
-    if path.is_dir() {
-        return Err(format!("{} is a folder", path.display()));
-    }
+    check_replaceable(path)?;
     if !force && exists(path) {
         return Err(format!("{} is already there; --force writes over it", path.display()));
+    }
+    Ok(())
+}
+
+/// What is not a regular file, or is read-only, is never replaced.
+pub fn check_replaceable(path: &Path) -> Result<(), String> {
+    let name = path.display();
+    let Ok(there) = path.metadata() else {
+        return Ok(());
+    };
+    if there.is_dir() {
+        return Err(format!("{name} is a folder"));
+    }
+    if !there.is_file() {
+        return Err(format!("{name} is not a regular file and is not replaced"));
+    }
+    // Root is denied nothing, so the mode is looked at, too.
+    let denied = || OpenOptions::new().write(true).open(path).err().map(|error| error.kind());
+    if there.permissions().mode() & 0o222 == 0 || denied() == Some(ErrorKind::PermissionDenied) {
+        return Err(format!("{name} is read-only and is not replaced"));
     }
     Ok(())
 }
@@ -48,85 +63,66 @@ fn full(path: &Path) -> Option<PathBuf> {
     path.canonicalize().ok().or_else(|| Some(folder(path).canonicalize().ok()?.join(path.file_name()?)))
 }
 
-fn folder(path: &Path) -> &Path {
+/// Whether the open file is the one that has this name now.
+pub fn is_named(file: &File, path: &Path) -> bool {
+    match (file.metadata(), path.symlink_metadata()) {
+        (Ok(file), Ok(named)) => (file.dev(), file.ino()) == (named.dev(), named.ino()),
+        _ => false,
+    }
+}
+
+/// The folder a file is in.
+pub fn folder(path: &Path) -> &Path {
     match path.parent() {
         Some(folder) if folder != Path::new("") => folder,
         _ => Path::new("."),
     }
 }
 
-/// A file that is written whole but does not have its name yet. It is removed if it never gets it.
-pub struct Pending {
-    target: PathBuf,
-    temporary: PathBuf,
-    keep: bool,
-}
-
-impl Pending {
-    /// Writes the parts, one behind the other, to a temporary file beside `target`.
-    pub fn write(target: &Path, parts: &[&[u8]], progress: &mut Progress) -> Result<Pending, String> {
-        let wrong = |error| format!("cannot write {}: {error}", target.display());
-        // What a link points to is replaced, not the link.
-        let target = if exists(target) { target.canonicalize().map_err(wrong)? } else { target.to_path_buf() };
-        let (mut file, temporary) = create_beside(&target)?;
-        let pending = Pending { target, temporary, keep: false };
-        let work = format!("writing {}", pending.target.display());
-        let total = parts.iter().map(|part| part.len()).sum();
-        let mut done = 0;
-        for stretch in parts.iter().flat_map(|part| part.chunks(STRETCH)) {
-            file.write_all(stretch).map_err(wrong)?;
-            done += stretch.len();
-            progress.tell(&work, done, total);
-        }
-        file.sync_all().map_err(wrong)?;
-        Ok(pending)
-    }
-
-    /// From now on the temporary file stays even if it cannot get its name: for what is needed to undo.
-    pub fn keep(mut self) -> Pending {
-        self.keep = true;
-        self
-    }
-
-    /// Gives the file its name. Without `over`, looks once more whether the name is free.
-    pub fn put(mut self, over: bool) -> Result<(), String> {
-        let put = check_free(&self.target, over).and_then(|()| {
-            fs::rename(&self.temporary, &self.target)
-                .map_err(|error| format!("cannot write {}: {error}", self.target.display()))
-        });
-        match put {
-            Err(words) if self.keep => Err(format!("{words}; it is kept as {}", self.temporary.display())),
-            Err(words) => Err(words),
-            Ok(()) => {
-                self.keep = true;
-                Ok(())
-            }
-        }
+/// What a link points to, or the name itself where it is no link.
+pub fn resolved(path: &Path) -> io::Result<PathBuf> {
+    if path.is_symlink() {
+        path.canonicalize()
+    } else {
+        Ok(path.to_path_buf())
     }
 }
 
-impl Drop for Pending {
-    fn drop(&mut self) {
-        if !self.keep {
-            let _ = fs::remove_file(&self.temporary);
+/// The name with this behind it.
+pub fn with_ending(path: &Path, ending: &str) -> PathBuf {
+    let mut name = OsString::from(path);
+    name.push(ending);
+    PathBuf::from(name)
+}
+
+/// The first of FILE.1, FILE.2 and so on that nothing has.
+pub fn free_name(path: &Path) -> PathBuf {
+    let mut number = 1;
+    loop {
+        let name = with_ending(path, &format!(".{number}"));
+        if !exists(&name) {
+            return name;
         }
+        number += 1;
     }
 }
 
-/// A new file with a name nobody has, in the same folder, so that the renaming is one step.
-fn create_beside(target: &Path) -> Result<(File, PathBuf), String> {
-    let wrong = |error: &dyn std::fmt::Display| format!("cannot write {}: {error}", target.display());
-    let name = target.file_name().ok_or_else(|| wrong(&"this is no file name"))?;
-    for attempt in 0..100 {
-        let mut hidden = OsString::from(".");
-        hidden.push(name);
-        hidden.push(format!(".{}-{attempt}.tmp", std::process::id()));
-        let temporary = folder(target).join(hidden);
-        match OpenOptions::new().write(true).create_new(true).open(&temporary) {
-            Ok(file) => return Ok((file, temporary)),
-            Err(error) if error.kind() == ErrorKind::AlreadyExists => {}
-            Err(error) => return Err(wrong(&error)),
+/// Makes the names in a folder outlast a loss of power. Not every file system can, and not every folder may be opened.
+pub fn sync_folder(path: &Path) -> io::Result<()> {
+    match File::open(folder(path)).and_then(|folder| folder.sync_all()) {
+        Err(error)
+            if !matches!(
+                error.kind(),
+                ErrorKind::InvalidInput | ErrorKind::Unsupported | ErrorKind::PermissionDenied
+            ) =>
+        {
+            Err(error)
         }
+        _ => Ok(()),
     }
-    Err(wrong(&"no name is free for a temporary file"))
+}
+
+/// The mode of a file; that of a private one where it cannot be known.
+pub fn mode(path: &Path) -> u32 {
+    fs::metadata(path).map_or(0o600, |there| there.permissions().mode() & 0o777)
 }

@@ -3,6 +3,8 @@
 //! All numbers are little-endian: mark (8 bytes), version (4), width (4), height (4), count in use (8), checksum of the
 //! surface as it is after the plays (4), checksum of the records (4), then the records in use.
 
+use std::fs::File;
+use std::io::Read;
 use std::path::Path;
 
 use face::constants::{BAD_CLOSING, JOURNAL_RECORD, MOST_JOURNAL, NO_ROOM};
@@ -33,7 +35,7 @@ pub struct Journal {
 pub enum Refusal {
     /// Some other file, or one that cannot be read: never written over.
     Foreign(String),
-    /// A journal that is damaged or another sheet's.
+    /// A journal that is damaged, another sheet's or of another version.
     Unfit(String),
 }
 
@@ -45,9 +47,41 @@ impl Refusal {
     }
 }
 
+/// One play in a journal.
+#[derive(Clone, Copy, Debug, PartialEq, Eq)]
+pub struct Play {
+    /// The type of the record that was played.
+    pub kind: u32,
+    pub pixels: u32,
+    /// The place of its first record.
+    first: u32,
+}
+
+impl Play {
+    /// One for each pixel, and the closing one.
+    pub fn records(&self) -> u64 {
+        self.pixels as u64 + 1
+    }
+}
+
+/// First and last column and row that a play's pixels have.
+#[derive(Clone, Copy, Debug, PartialEq, Eq)]
+pub struct Span {
+    pub columns: (u32, u32),
+    pub rows: (u32, u32),
+}
+
 impl Journal {
     pub fn new() -> Journal {
         Journal::default()
+    }
+
+    /// Whether the file begins as a journal, were it damaged or another sheet's.
+    pub fn is_one(path: &Path) -> Result<bool, String> {
+        let mut bytes = Vec::new();
+        let read = File::open(path).and_then(|file| file.take(MARK.len() as u64).read_to_end(&mut bytes));
+        read.map_err(|error| format!("cannot read {}: {error}", path.display()))?;
+        Ok(bytes == MARK)
     }
 
     /// Reads the file and tests that it belongs to the sheet.
@@ -67,7 +101,7 @@ impl Journal {
         let header = |at| u32_at(&bytes, at).ok_or_else(|| unfit("the journal is cut off"));
         let version = header(8)?;
         if version != VERSION {
-            return Err(Refusal::Foreign(format!("the journal has version {version}; this tool knows {VERSION}")));
+            return Err(Refusal::Unfit(format!("the journal has version {version}; this tool knows {VERSION}")));
         }
         let used = u64_at(&bytes, 20).ok_or_else(|| unfit("the journal is cut off"))?;
         let (sides, sheet_sum, records_sum) = ((header(12)?, header(16)?), header(28)?, header(32)?);
@@ -109,18 +143,53 @@ impl Journal {
         (header, records)
     }
 
-    /// How many plays it holds, by its closing records from the last to the first; None where they do not add up.
+    /// The plays by their closing records, from the last to the first. None, once, where they do not add up.
+    fn backwards(&self) -> impl Iterator<Item = Option<Play>> + '_ {
+        let mut left = self.used;
+        std::iter::from_fn(move || {
+            let closing = left.checked_sub(1)?;
+            let play = self.closed_at(closing);
+            left = play.map_or(0, |play| play.first as u64);
+            Some(play)
+        })
+    }
+
+    fn closed_at(&self, closing: u64) -> Option<Play> {
+        let at = closing as usize * JOURNAL_RECORD;
+        let number = |place: usize| u32_at(&self.records, at + 4 * place);
+        let (mark, pixels, kind) = (number(0)?, number(1)?, number(2)?);
+        let first = closing.checked_sub(pixels as u64)? as u32;
+        (mark == CLOSING).then_some(Play { kind, pixels, first })
+    }
+
+    /// How many plays it holds; None where their closing records do not add up.
     pub fn plays(&self) -> Option<u64> {
-        let (mut left, mut plays) = (self.used, 0);
-        while left > 0 {
-            let at = (left - 1) as usize * JOURNAL_RECORD;
-            if u32_at(&self.records, at)? != CLOSING {
-                return None;
-            }
-            left = (left - 1).checked_sub(u32_at(&self.records, at + 4)? as u64)?;
-            plays += 1;
-        }
-        Some(plays)
+        self.backwards().try_fold(0, |plays, play| play.map(|_| plays + 1))
+    }
+
+    /// The plays from the first to the last.
+    pub fn list(&self) -> Vec<Play> {
+        let mut plays: Vec<Play> = self.backwards().flatten().collect();
+        plays.reverse();
+        plays
+    }
+
+    /// Where a play's pixels lie; None where it drew nothing.
+    pub fn span(&self, play: &Play) -> Option<Span> {
+        let records = self.records.chunks_exact(JOURNAL_RECORD).skip(play.first as usize).take(play.pixels as usize);
+        let places = records.filter_map(|record| Some((u32_at(record, 0)?, u32_at(record, 4)?)));
+        places.fold(None, |span: Option<Span>, (column, row)| {
+            let Span { columns, rows } = span.unwrap_or(Span { columns: (column, column), rows: (row, row) });
+            Some(Span {
+                columns: (columns.0.min(column), columns.1.max(column)),
+                rows: (rows.0.min(row), rows.1.max(row)),
+            })
+        })
+    }
+
+    /// How many records are in use.
+    pub fn used(&self) -> u64 {
+        self.used
     }
 
     /// Plays the record. Where the library finds no room the journal grows, as far as it may. Err is the status.
@@ -183,6 +252,10 @@ mod tests {
         assert_eq!(bytes.len(), HEADER + 12 * JOURNAL_RECORD);
         let mut read = Journal::parse(bytes, &after).unwrap();
         assert_eq!((read.plays(), read.used), (Some(2), 12));
+        let listed: Vec<_> = read.list().iter().map(|play| (play.kind, play.records(), read.span(play))).collect();
+        let whole = Span { columns: (0, 3), rows: (0, 1) };
+        let left = Span { columns: (0, 0), rows: (0, 1) };
+        assert_eq!(listed, [(STRETCHDIBITS, 9, Some(whole)), (STRETCHDIBITS, 3, Some(left))]);
         assert_eq!(read.undo(&mut after.surface), Ok(2));
         assert_eq!(read.undo(&mut after.surface), Ok(8));
         assert_eq!(read.undo(&mut after.surface), Err(NOTHING));

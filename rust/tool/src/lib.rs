@@ -22,6 +22,8 @@ pub mod sheet;
 pub mod bmp;
 pub mod device;
 pub mod journal;
+pub mod lock;
+pub mod pending;
 pub mod png;
 pub mod reasons;
 

@@ -113,7 +113,8 @@ mod tests {
         assert_eq!((1..=200).filter(|kind| is_bitmap(*kind)).count(), 8);
         assert_eq!((1..=200).filter(|kind| played(*kind).is_some()).count(), 3);
         assert!((1..=200).all(|kind| !(is_bitmap(kind) && draws_otherwise(kind))));
-        for name_of in ["POLYGON", "SETPIXELV", "PIE", "LINETO", "FILLPATH", "PAINTRGN", "EXTTEXTOUTW", "GRADIENTFILL"] {
+        for name_of in ["POLYGON", "SETPIXELV", "PIE", "LINETO", "FILLPATH", "PAINTRGN", "EXTTEXTOUTW", "GRADIENTFILL"]
+        {
             let kind = NAMES.iter().position(|name| *name == name_of).unwrap() as u32 + 1;
             assert!(draws_otherwise(kind), "{name_of}");
         }

@@ -41,7 +41,9 @@ fn only_and_skip() {
     folder.run("play sheet.png all.emf -o strict.png --strict").expect(2);
     assert!(!folder.has("strict.png"));
     folder.run("play sheet.png all.emf -o strict.png --strict --skip 2,4").expect(0);
-    folder.run("play sheet.png all.emf -o o.png --only 5").fails("all.emf: there is no record 5: the file has 4 bitmap");
+    folder
+        .run("play sheet.png all.emf -o o.png --only 5")
+        .fails("all.emf: there is no record 5: the file has 4 bitmap");
     folder.run("play sheet.png all.emf -o o.png --skip 0").fails("--skip needs numbers of records");
     folder.run("play sheet.png all.emf mask.emf -o o.png --only 1").fails("number the records of one EMF file");
     assert!(!folder.has("o.png"));
@@ -54,7 +56,9 @@ fn a_dry_run_knows_the_room() {
     let before = folder.names();
     let ended = folder.run("play sheet.png brush.emf mask.emf --dry-run").expect(0);
     // 10 by 10 pixels, 20 by 30, and a closing record each.
-    assert!(ended.out.contains("brush.emf: record 1 at offset 88: stretched DIB (EMR_STRETCHDIBITS, 0x51): 100 pixels\n"));
+    assert!(ended
+        .out
+        .contains("brush.emf: record 1 at offset 88: stretched DIB (EMR_STRETCHDIBITS, 0x51): 100 pixels\n"));
     assert!(ended.out.ends_with("skipped; 702 journal records needed; nothing was written\n"), "{ended:?}");
     assert_eq!(folder.names(), before);
     folder.run("play sheet.png brush.emf mask.emf -o out.png --journal j").expect(0);
@@ -92,17 +96,27 @@ fn mix_ups_are_told() {
     let before = folder.names();
     folder.run("info sheet.png").fails("sheet.png: this is a PNG picture, not an EMF file");
     folder.run("info sheet.bmp").fails("sheet.bmp: this is a BMP picture, not an EMF file");
-    folder.run("info packed.emf").fails("this is a gzip file (an .emz file is a packed EMF file: unpack it first), not an EMF");
+    folder
+        .run("info packed.emf")
+        .fails("this is a gzip file (an .emz file is a packed EMF file: unpack it first), not an EMF");
     folder.run("info old.emf").fails("old.emf: this is a WMF file, not an EMF file");
     folder.run("info empty.emf").fails("empty.emf: this is an empty file, not an EMF file");
     folder.run("play sheet.png sheet.bmp -o o.png").fails("sheet.bmp: this is a BMP picture, not an EMF file");
-    folder.run("play mask.emf sheet.png -o o.png").fails("mask.emf: this is an EMF file, not a sheet; the sheet comes first");
+    folder
+        .run("play mask.emf sheet.png -o o.png")
+        .fails("mask.emf: this is an EMF file, not a sheet; the sheet comes first");
     folder.run("play bands.png mask.emf -o o.png").fails("bands.png: this is an EMF file, not a sheet");
-    folder.run("play photo.jpg mask.emf -o o.png").fails("photo.jpg: this is a JPEG picture; a sheet is a PNG or BMP picture");
-    folder.run("play photo.png mask.emf -o o.png").fails("photo.png: this is a JPEG picture; a sheet is a PNG or BMP picture");
+    folder
+        .run("play photo.jpg mask.emf -o o.png")
+        .fails("photo.jpg: this is a JPEG picture; a sheet is a PNG or BMP picture");
+    folder
+        .run("play photo.png mask.emf -o o.png")
+        .fails("photo.png: this is a JPEG picture; a sheet is a PNG or BMP picture");
     folder.run("play renamed.bmp mask.emf -o o.png").fails("renamed.bmp: this is a PNG picture under a .bmp name");
     folder.run("play renamed.png mask.emf -o o.png").fails("renamed.png: this is a BMP picture under a .png name");
-    folder.run("play sheet.png mask.emf -o o.png --journal sheet.bmp").fails("sheet.bmp: this is a BMP picture, not a journal");
+    folder
+        .run("play sheet.png mask.emf -o o.png --journal sheet.bmp")
+        .fails("sheet.bmp: this is a BMP picture, not a journal");
     folder.run("undo sheet.png --journal mask.emf -o o.png").fails("mask.emf: this is an EMF file, not a journal");
     assert_eq!(folder.names(), before);
 }

@@ -30,7 +30,7 @@ fn help_and_version() {
     let version = folder.run("--version").expect(0).out;
     assert_eq!(version, format!("lacrumont {}\n", env!("CARGO_PKG_VERSION")));
     assert!(folder.run("--help").expect(0).out.contains("lacrumont play SHEET"));
-    for command in ["info", "play", "undo"] {
+    for command in ["info", "play", "undo", "journal"] {
         let help = folder.run(&format!("{command} --help")).expect(0).out;
         assert!(help.starts_with(&format!("lacrumont {command} ")) && help.contains("Exit code"));
         assert!(help.lines().all(|line| line.chars().count() <= 120));
@@ -59,6 +59,10 @@ fn wrong_use() {
     folder.run("undo sheet.png --journal j -o out.png").fails("cannot read j");
     folder.run("undo sheet.png --journal j -o out.png --plays 0").fails("a number from 1 on");
     folder.run("undo sheet.png --journal j -o out.png --plays 1 --all").fails("cannot go together");
+    folder.run("play sheet.png a.emf -o out.png --new-journal").fails("--new-journal needs --journal FILE");
+    folder.run("journal sheet.png").fails("--journal FILE is missing");
+    folder.run("journal --journal j").fails("journal needs one sheet");
+    folder.run("journal sheet.png --journal j").fails("cannot read j");
     assert_eq!(folder.names(), before);
 }
 
@@ -131,7 +135,10 @@ fn plays_draw_what_the_records_say() {
     let before = folder.get_sheet("sheet.png");
     folder.put("one.emf", &emf(&[brush_record([2, 3, 10, 10])]));
     let ended = folder.run("play sheet.png one.emf -o out.png --brush #3060C0 --clip=-9,5,6,7").expect(0);
-    assert!(ended.out.contains("one.emf: record 1 at offset 88: stretched DIB (EMR_STRETCHDIBITS, 0x51): 8 pixels\n"), "{ended:?}");
+    assert!(
+        ended.out.contains("one.emf: record 1 at offset 88: stretched DIB (EMR_STRETCHDIBITS, 0x51): 8 pixels\n"),
+        "{ended:?}"
+    );
     assert!(ended.out.contains("1 played, 0 drew nothing, 0 refused, 0 skipped; wrote out.png"));
     assert!(ended.err.is_empty());
     let after = folder.get_sheet("out.png");
@@ -254,8 +261,9 @@ fn one_file_has_one_part() {
     folder.run("play sheet.png a.emf -o o.png --journal a.emf --force").fails("the journal and an EMF file at once");
     folder.run("undo sheet.png --journal sheet.png -o out.png").fails("the journal and the sheet at once");
     folder.run("undo sheet.png --journal ./out.png -o out.png").fails("the journal and OUT at once");
-    // Not a journal: kept, even under --force.
-    folder.run("play sheet.png a.emf -o o.png --journal b.emf --force").fails("b.emf: this is no journal");
+    // Not a journal: kept, whatever is asked for.
+    let both = "--force --new-journal";
+    folder.run(&format!("play sheet.png a.emf -o o.png --journal b.emf {both}")).fails("b.emf: this is no journal");
     folder.run("undo sheet.png --journal b.emf -o o.png").fails("b.emf: this is no journal");
     assert!(!folder.has("o.png") && !folder.has("out.png"));
 }
@@ -278,9 +286,12 @@ fn a_wrong_journal_changes_nothing() {
     folder.put("j", &journal[..journal.len() - 1]);
     folder.run("undo out.png --journal j -o undone.png").fails("length is not what its count in use says");
     folder.put("j", &journal);
-    // Only --force begins a journal anew.
-    let ended = folder.run("play sheet.png b.emf -o more.png --journal j --force").expect(0);
-    assert!(ended.err.contains("begun anew") && ended.out.contains("journal j holds 2 plays"));
+    // Only --new-journal begins a journal anew, and it throws none away.
+    folder.run("play sheet.png b.emf -o more.png --journal j --force").fails("--new-journal begins one and keeps");
+    assert!(folder.get("j") == journal && !folder.has("more.png"));
+    let ended = folder.run("play sheet.png b.emf -o more.png --journal j --new-journal").expect(0);
+    assert!(ended.err.contains("is kept as j.1") && ended.out.contains("journal j holds 2 plays"), "{ended:?}");
+    assert_eq!(folder.get("j.1"), journal);
     folder.run("undo more.png --journal j -o undone.png --all").expect(0);
     assert_eq!(folder.get("undone.png"), folder.get("sheet.png"));
 }
@@ -301,7 +312,9 @@ fn a_full_journal_is_an_error() {
     folder.put("a.emf", &emf(&[brush_record([0, 0, 4096, 4096]), brush_record([0, 0, 4096, 4096])]));
     let ended = folder.run("play sheet.bmp a.emf -o out.bmp --journal j").expect(1);
     assert!(ended.err.contains("status 14: the journal has no room"), "{ended:?}");
-    assert!(ended.err.contains("it needs 10,649,601 records, and 9,350,399 of 20,000,000 are free. Nothing was written"));
+    assert!(ended
+        .err
+        .contains("it needs 10,649,601 records, and 9,350,399 of 20,000,000 are free. Nothing was written"));
     assert!(ended.err.contains("--new-journal"));
     assert_eq!(folder.names(), ["a.emf", "sheet.bmp"]);
     folder.run("play sheet.bmp a.emf -o out.bmp").expect(0);

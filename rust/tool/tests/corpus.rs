@@ -160,9 +160,8 @@ fn play_is_not_silent() {
         for (line, words) in told.iter().zip(*lines) {
             assert!(line.starts_with("lacrumont: ") && line.contains(words), "{name}: {line:?} has no {words:?}");
         }
-        let summary = format!(
-            "{played} played, {nothing} drew nothing, {refused} refused, {skipped} skipped; wrote {name}.png"
-        );
+        let summary =
+            format!("{played} played, {nothing} drew nothing, {refused} refused, {skipped} skipped; wrote {name}.png");
         assert_eq!(ended.out.lines().last(), Some(&*summary), "{name}");
         let drawn = folder.get_sheet("sheet.png").surface != folder.get_sheet(&format!("{name}.png")).surface;
         assert_eq!(drawn, *played > 0, "{name}");
@@ -188,7 +187,8 @@ fn a_dry_run_writes_nothing() {
 fn strict_plays_a_file_whole_or_not_at_all() {
     let folder = prepared("strict_plays_a_file_whole_or_not_at_all");
     for Case(name, code, counts, _) in CASES {
-        let ended = folder.run(&format!("play sheet.png {name}.emf -o {name}.png --journal {name}.j --strict")).expect(*code);
+        let ended =
+            folder.run(&format!("play sheet.png {name}.emf -o {name}.png --journal {name}.j --strict")).expect(*code);
         let whole = counts[2] + counts[3] == 0;
         assert_eq!(folder.has(&format!("{name}.png")), whole, "{name}");
         assert_eq!(folder.has(&format!("{name}.j")), whole, "{name}");

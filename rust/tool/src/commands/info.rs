@@ -32,12 +32,14 @@ pub fn run(arguments: &[OsString], out: &mut Out) -> Result<u8, String> {
     let bytes = emf_files::read(path)?;
     out.line(&format!("{}: {} bytes", path.display(), words::count(bytes.len() as u64)));
     let (mut listed, mut refused) = (0, 0);
-    let others = emf_files::bitmap_records(path, &bytes, |record| {
-        let (line, good) = describe(&record);
+    let survey = emf_files::survey(path, &bytes, 0, |_| true)?;
+    let others = survey.others;
+    for record in &survey.records {
+        let (line, good) = describe(&record.record);
         out.line(&line);
         listed += 1;
         refused += u64::from(!good);
-    })?;
+    }
     let would = if refused == 0 { "all can be played".to_string() } else { format!("{refused} would be refused") };
     let would = if listed == 0 { "nothing to play".to_string() } else { would };
     out.line(&format!(

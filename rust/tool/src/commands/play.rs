@@ -10,9 +10,11 @@ use super::choice::Choice;
 use super::emf_files;
 use super::output::{complain, Out, FINE};
 use super::playing::Playing;
-use super::results::write_both;
+use super::recovery;
+use super::results::{write_both, Before, JournalFile, Picture};
 use super::tally::Tally;
 use crate::journal::{Journal, Refusal};
+use crate::lock::Lock;
 use crate::progress::Progress;
 use crate::sheet::Sheet;
 use crate::survey::{Fate, Listed};
@@ -21,7 +23,7 @@ use crate::{files, reasons, sheet_files, words};
 const KNOWN: Known = Known {
     command: "play",
     valued: &["-o", "--clip", "--brush", "--journal", "--only", "--skip"],
-    flags: &["--force", "--strict", "--dry-run"],
+    flags: &["--force", "--strict", "--dry-run", "--new-journal", "--no-wait"],
 };
 
 const HELP: &str = "\
@@ -40,8 +42,10 @@ nothing is written.
   --strict         all or nothing: where a wanted record is refused or skipped, nothing is written
   --dry-run        says what would be drawn and how many journal records it takes, and writes nothing; needs no -o
   --journal FILE   keeps every old pixel in FILE, so that undo can take the plays back. A journal that is there and
-                   belongs to SHEET is continued; without one it is begun
-  --force          writes over OUT if it is there
+                   belongs to SHEET is continued; without one it is begun. FILE.lock is there while a run has it
+  --new-journal    begins a journal; one that is there is kept beside it as FILE.1, FILE.2 and so on
+  --no-wait        an error if another run has the journal; without it, waits for that run
+  --force          writes over OUT if it is there and not read-only
 
 The last line tells of all bitmap records: played; drew nothing (accepted, but Bounds or target miss the clip);
 refused; skipped (a type that is not played); left out (--only, --skip).
@@ -64,6 +68,8 @@ struct Asked {
     force: bool,
     strict: bool,
     dry_run: bool,
+    new_journal: bool,
+    wait: bool,
 }
 
 pub fn run(arguments: &[OsString], out: &mut Out) -> Result<u8, String> {
@@ -75,11 +81,13 @@ pub fn run(arguments: &[OsString], out: &mut Out) -> Result<u8, String> {
     let asked = Asked::of(&parsed)?;
     asked.check_names()?;
 
+    // Before the sheet is read, so that no other run writes it or the journal before this one has.
+    let lock = asked.lock()?;
     let mut progress = Progress::new();
     let mut sheet = sheet_files::load(&asked.sheet, &mut progress)?;
-    let (journal, continued) = match &asked.journal {
-        Some(path) => open_journal(path, &sheet, asked.force)?,
-        None => (Journal::new(), false),
+    let (journal, before) = match &asked.journal {
+        Some(path) => open_journal(path, &sheet, asked.new_journal)?,
+        None => (Journal::new(), Before::Absent),
     };
     // All files are read and walked before the first pixel is drawn, so that a damaged one changes nothing.
     let files: Vec<Vec<u8>> = asked.emfs.iter().map(|path| emf_files::read(path)).collect::<Result<_, _>>()?;
@@ -101,7 +109,8 @@ pub fn run(arguments: &[OsString], out: &mut Out) -> Result<u8, String> {
         return playing.end_dry(asked.journal.as_deref());
     }
     let Playing { sheet, journal, tally, out, .. } = playing;
-    asked.write(sheet, &journal, continued, tally, out, &mut progress)
+    asked.write(sheet, &journal, before, lock, &mut progress)?;
+    asked.end(sheet, &journal, tally, out)
 }
 
 impl Asked {
@@ -121,9 +130,14 @@ impl Asked {
             force: parsed.has("--force"),
             strict: parsed.has("--strict"),
             dry_run: parsed.has("--dry-run"),
+            new_journal: parsed.has("--new-journal"),
+            wait: !parsed.has("--no-wait"),
         };
         if asked.out.is_none() && !asked.dry_run {
             return Err(KNOWN.wrong("-o OUT is missing"));
+        }
+        if asked.new_journal && asked.journal.is_none() {
+            return Err(KNOWN.wrong("--new-journal needs --journal FILE"));
         }
         if asked.choice.is_given() && asked.emfs.len() > 1 {
             return Err(KNOWN.wrong("--only and --skip number the records of one EMF file, and there are more"));
@@ -180,28 +194,41 @@ impl Asked {
         Ok(records)
     }
 
+    /// The journal's lock. A dry run does without where the folder may only be read.
+    fn lock(&self) -> Result<Option<Lock>, String> {
+        let Some(journal) = &self.journal else { return Ok(None) };
+        match recovery::lock(journal, self.out.as_deref(), self.wait) {
+            Ok(lock) => Ok(Some(lock)),
+            Err(no) if no.denied && self.dry_run => Ok(None),
+            Err(no) => Err(no.words),
+        }
+    }
+
     fn write(
         &self,
         sheet: &Sheet,
         journal: &Journal,
-        continued: bool,
-        mut tally: Tally,
-        out: &mut Out,
+        before: Before,
+        mut lock: Option<Lock>,
         progress: &mut Progress,
-    ) -> Result<u8, String> {
-        let Some(out_path) = &self.out else {
-            return Err(KNOWN.wrong("-o OUT is missing"));
-        };
-        let over = continued || self.force;
-        write_both(sheet, out_path, self.force, journal, self.journal.as_deref(), over, progress)?;
-        for lost in sheet_files::lost(sheet, out_path) {
-            tally.warn(&format!("{}: {lost} of the sheet is not kept in a .bmp file", out_path.display()));
+    ) -> Result<(), String> {
+        let Some(out) = &self.out else { return Ok(()) };
+        let picture = Picture { sheet, from: &self.sheet, out, force: self.force };
+        let file = self.journal.as_deref().zip(lock.as_mut());
+        write_both(picture, file.map(|(path, lock)| JournalFile { journal, path, before, lock }), progress)
+    }
+
+    /// What is said at the end.
+    fn end(&self, sheet: &Sheet, journal: &Journal, mut tally: Tally, out: &mut Out) -> Result<u8, String> {
+        let Some(written) = &self.out else { return Ok(tally.code()) };
+        for lost in sheet_files::lost(sheet, written) {
+            tally.warn(&format!("{}: a .bmp file cannot keep the sheet's {lost}", written.display()));
         }
         if let Some(path) = &self.journal {
-            let plays = words::things(journal.plays().unwrap_or(0), "play");
+            let plays = words::things(journal.list().len() as u64, "play");
             out.line(&format!("journal {} holds {plays}", path.display()));
         }
-        out.line(&format!("{}; wrote {}", tally.line(), out_path.display()));
+        out.line(&format!("{}; wrote {}", tally.line(), written.display()));
         Ok(tally.code())
     }
 }
@@ -210,18 +237,18 @@ fn whole(sheet: &Sheet) -> Clip {
     Clip { left: 0, top: 0, right: sheet.surface.width as i32, bottom: sheet.surface.height as i32 }
 }
 
-/// The journal, and whether it is one that was there.
-fn open_journal(path: &Path, sheet: &Sheet, force: bool) -> Result<(Journal, bool), String> {
+/// The journal that is there, or a new one, and what becomes of the file.
+fn open_journal(path: &Path, sheet: &Sheet, new: bool) -> Result<(Journal, Before), String> {
     if !files::exists(path) {
-        return Ok((Journal::new(), false));
+        return Ok((Journal::new(), Before::Absent));
+    }
+    files::check_replaceable(path)?;
+    if new && Journal::is_one(path)? {
+        return Ok((Journal::new(), Before::Kept));
     }
     match Journal::load(path, sheet) {
-        Ok(journal) => Ok((journal, true)),
-        Err(Refusal::Unfit(words)) if force => {
-            complain(&format!("{words}; begun anew"));
-            Ok((Journal::new(), false))
-        }
-        Err(Refusal::Unfit(words)) => Err(format!("{words}; --force begins it anew")),
+        Ok(journal) => Ok((journal, Before::Continued)),
+        Err(Refusal::Unfit(words)) => Err(format!("{words}; --new-journal begins one and keeps this one beside it")),
         Err(foreign) => Err(foreign.words()),
     }
 }

@@ -63,6 +63,10 @@ impl Playing<'_> {
         listed.reach(Area::cut(self.clip, surface.width, surface.height))
     }
 
+    fn free(&self) -> u64 {
+        MOST_JOURNAL as u64 - self.journal.used()
+    }
+
     fn full(&self, place: &str, listed: &Listed) -> String {
         let wanted = self.reach(listed).and_then(Result::ok).unwrap_or(0) + 1;
         format!(
@@ -70,7 +74,7 @@ impl Playing<'_> {
              Nothing was written. Take plays back with undo, draw less with --clip or --skip, begin another journal with \
              --new-journal (this one is kept), or play without --journal",
             words::count(wanted),
-            words::count(self.journal.free()),
+            words::count(self.free()),
             words::count(MOST_JOURNAL as u64)
         )
     }
@@ -82,7 +86,7 @@ impl Playing<'_> {
         let Some(path) = journal else {
             return Ok(self.tally.code());
         };
-        let free = self.journal.free();
+        let free = self.free();
         self.out.line(&format!("journal {} has {} free", path.display(), words::things(free, "record")));
         Ok(if self.needed > free { ERROR } else { self.tally.code() })
     }

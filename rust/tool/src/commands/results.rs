@@ -1,30 +1,120 @@
 //! The files that a play or an undo leaves.
 
+use std::fs;
 use std::path::Path;
 
-use crate::files::Pending;
+use super::output::complain;
+use super::recovery::sweep;
+use crate::files;
 use crate::journal::Journal;
+use crate::lock::{Intent, Lock};
+use crate::pending::{self, Pending, Rights};
 use crate::progress::Progress;
 use crate::sheet::Sheet;
 use crate::sheet_files;
 
+/// What is known of the journal's file before it is written.
+#[derive(Clone, Copy, Debug, PartialEq, Eq)]
+pub enum Before {
+    /// None is there.
+    Absent,
+    /// It has been read and is written over.
+    Continued,
+    /// It is kept under another name.
+    Kept,
+}
+
+/// A sheet, the file it came from, and the one it goes to.
+pub struct Picture<'a> {
+    pub sheet: &'a Sheet,
+    pub from: &'a Path,
+    pub out: &'a Path,
+    pub force: bool,
+}
+
+/// A journal and its file.
+pub struct JournalFile<'a> {
+    pub journal: &'a Journal,
+    pub path: &'a Path,
+    pub before: Before,
+    pub lock: &'a mut Lock,
+}
+
 /// Both files are written whole before either gets its name, so that a full disk changes neither.
-pub fn write_both(
-    sheet: &Sheet,
-    out_path: &Path,
-    over_out: bool,
-    journal: &Journal,
-    journal_path: Option<&Path>,
-    over_journal: bool,
+pub fn write_both(picture: Picture, journal: Option<JournalFile>, progress: &mut Progress) -> Result<(), String> {
+    let Picture { sheet, from, out, force } = picture;
+    let mode = files::mode(from);
+    let packed = sheet_files::packed(sheet, out, progress)?;
+    // A journal of this name has a killed run to be set right first; its temporary file may be needed for that.
+    if !files::exists(&files::with_ending(out, ".lock")) {
+        sweep(out);
+    }
+    let mut picture = write(out, Rights::of(out, mode), &[&packed], progress)?;
+    let Some(file) = journal else {
+        files::check_free(out, force)?;
+        picture.put()?;
+        let _ = files::sync_folder(picture.target());
+        return Ok(());
+    };
+    let rights = if file.before == Before::Kept { Rights::New(mode) } else { Rights::of(file.path, mode) };
+    let (header, records) = file.journal.parts(sheet);
+    sweep(file.path);
+    let journal = write(file.path, rights, &[&header, records], progress)?;
+    files::check_free(out, force)?;
+    files::check_replaceable(file.path)?;
+    if file.before == Before::Absent && files::exists(file.path) {
+        return Err(format!("{} has come into being meanwhile and is not written over", file.path.display()));
+    }
+    give_names(picture, journal, file.before == Before::Kept, file.lock, progress)
+}
+
+fn write(path: &Path, rights: Rights, parts: &[&[u8]], progress: &mut Progress) -> Result<Pending, String> {
+    let pending = Pending::write(path, rights, parts, progress)?;
+    if !pending.owned() {
+        complain(&format!("{}: its owner or group could not be kept", path.display()));
+    }
+    Ok(pending)
+}
+
+/// Gives both files their names. A kill at any moment leaves what the next run can take to its end or take back: the
+/// intent is on the disk before the first name is given, and the picture's name before the journal's is.
+fn give_names(
+    mut picture: Pending,
+    // Behind the picture, so that it is removed before it where nothing is put.
+    mut journal: Pending,
+    keep: bool,
+    lock: &mut Lock,
     progress: &mut Progress,
 ) -> Result<(), String> {
-    let picture = Pending::write(out_path, &[&sheet_files::packed(sheet, out_path, progress)?], progress)?;
-    let Some(journal_path) = journal_path else {
-        return picture.put(over_out);
-    };
-    let (header, records) = journal.parts(sheet);
-    let journal = Pending::write(journal_path, &[&header, records], progress)?;
-    picture.put(over_out)?;
-    // OUT is there now, and only this journal can undo it.
-    journal.keep().put(over_journal)
+    let target = journal.target().to_path_buf();
+    let kept = keep.then(|| files::free_name(&target));
+    lock.intend(&Intent {
+        picture: picture.temporary().to_path_buf(),
+        journal: journal.temporary().to_path_buf(),
+        kept: kept.clone(),
+    })?;
+    files::sync_folder(picture.target())
+        .map_err(|error| format!("cannot write {}: {error}", picture.target().display()))?;
+    if let Some(name) = &kept {
+        pending::link(&target, name, progress)?;
+    }
+    if let Err(words) = picture.put() {
+        if let Some(name) = &kept {
+            let _ = fs::remove_file(name);
+        }
+        return Err(words);
+    }
+    let _ = files::sync_folder(picture.target());
+    if let Err(words) = journal.put() {
+        // The picture is there now, and only this journal can undo it.
+        journal.keep();
+        lock.leave();
+        let kept = journal.temporary().display();
+        return Err(format!("{words}; it is kept as {kept}, and the next run will try again"));
+    }
+    if let Some(name) = kept {
+        complain(&format!("the journal that was there is kept as {}", name.display()));
+    }
+    let _ = files::sync_folder(&target);
+    Ok(())
 }

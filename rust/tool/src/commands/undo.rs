@@ -6,15 +6,17 @@ use face::constants::NOTHING;
 
 use super::arguments::Known;
 use super::output::{Out, FINE};
-use super::results::write_both;
+use super::recovery;
+use super::results::{write_both, Before, JournalFile, Picture};
 use crate::journal::Journal;
 use crate::progress::Progress;
 use crate::{files, sheet_files, words};
 
-const KNOWN: Known = Known { command: "undo", valued: &["-o", "--journal", "--plays"], flags: &["--all", "--force"] };
+const KNOWN: Known =
+    Known { command: "undo", valued: &["-o", "--journal", "--plays"], flags: &["--all", "--force", "--no-wait"] };
 
 const HELP: &str = "\
-lacrumont undo SHEET --journal FILE -o OUT [--plays N | --all] [--force]
+lacrumont undo SHEET --journal FILE -o OUT [--plays N | --all] [--force] [--no-wait]
 
 Takes back the last play in the journal, or the last N, or all, and writes OUT and the shortened journal. SHEET must
 be the sheet as the plays left it; if it is not, nothing is changed.
@@ -23,7 +25,8 @@ be the sheet as the plays left it; if it is not, nothing is changed.
   -o OUT           the file to write, .png or .bmp
   --plays N        takes back N plays
   --all            takes back all plays
-  --force          writes over OUT if it is there
+  --force          writes over OUT if it is there and not read-only
+  --no-wait        an error if another run has the journal; without it, waits for that run
 
 Exit code: 0 all went well, 1 an error of files or use.
 ";
@@ -53,7 +56,11 @@ pub fn run(arguments: &[OsString], out: &mut Out) -> Result<u8, String> {
         }
     }
     files::check_free(&out_path, force)?;
+    files::check_replaceable(&journal_path)?;
 
+    // Before the sheet is read, so that no other run writes it or the journal before this one has.
+    let lock = recovery::lock(&journal_path, Some(&out_path), !parsed.has("--no-wait"));
+    let mut lock = lock.map_err(|no| no.words)?;
     let mut progress = Progress::new();
     let mut sheet = sheet_files::load(sheet_path, &mut progress)?;
     let mut journal =
@@ -79,7 +86,9 @@ pub fn run(arguments: &[OsString], out: &mut Out) -> Result<u8, String> {
         out.line(&format!("play {number} taken back: {}", words::things(pixels.into(), "pixel")));
         progress.tell("taking back", done as usize + 1, count as usize);
     }
-    write_both(&sheet, &out_path, force, &journal, Some(&journal_path), true, &mut progress)?;
+    let picture = Picture { sheet: &sheet, from: sheet_path, out: &out_path, force };
+    let file = JournalFile { journal: &journal, path: &journal_path, before: Before::Continued, lock: &mut lock };
+    write_both(picture, Some(file), &mut progress)?;
     let left = words::things(held - count, "play");
     out.line(&format!(
         "{} taken back; wrote {}; journal {name} holds {left}",

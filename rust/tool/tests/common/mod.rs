@@ -1,5 +1,7 @@
 //! EMF files and sheets for the tests, and the tool to run on them.
 
+#![allow(dead_code)]
+
 use std::fs;
 use std::path::{Path, PathBuf};
 use std::process::Command;

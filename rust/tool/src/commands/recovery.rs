@@ -1,0 +1,113 @@
+//! The journal's lock as a command takes it, and what a killed run left behind.
+
+use std::fs;
+use std::os::unix::fs::MetadataExt;
+use std::path::{Path, PathBuf};
+
+use super::output::complain;
+use crate::journal::Journal;
+use crate::lock::{Intent, Left, Lock, NoLock};
+use crate::progress::Progress;
+use crate::{files, pending, sheet_files};
+
+/// Takes the journal's lock and sets right what a killed run left. `out` is the file this run will write.
+pub fn lock(journal: &Path, out: Option<&Path>, wait: bool) -> Result<Lock, NoLock> {
+    let (mut lock, left) = Lock::take(journal, |process| busy(journal, process, wait))?;
+    if let Some(left) = left {
+        recover(journal, &left)?;
+    }
+    lock.begin(out)?;
+    Ok(lock)
+}
+
+fn busy(journal: &Path, process: Option<u32>, wait: bool) -> Result<(), String> {
+    let run = format!("another run{}", process.map_or(String::new(), |process| format!(" (process {process})")));
+    if wait {
+        complain(&format!("waiting for {run} that has the journal {}", journal.display()));
+        return Ok(());
+    }
+    Err(format!("{run} has the journal {}; without --no-wait this one would wait for it", journal.display()))
+}
+
+/// A run that was killed is taken to its end if it had begun to give its files their names, and else back.
+fn recover(journal: &Path, left: &Left) -> Result<(), String> {
+    let run = left.process.map_or("a run".to_string(), |process| format!("a run (process {process})"));
+    complain(&format!("{run} that had the journal {} was killed", journal.display()));
+    let target = files::resolved(journal).map_err(|error| format!("cannot write {}: {error}", journal.display()))?;
+    if let (Some(intent), Some(out)) = (&left.intent, &left.out) {
+        settle(&target, out, intent)?;
+    }
+    let kept = left.intent.as_ref().and_then(|intent| intent.kept.as_deref());
+    for path in [left.out.as_deref(), kept, Some(target.as_path())].into_iter().flatten() {
+        sweep(path);
+    }
+    Ok(())
+}
+
+/// Says what killed runs left beside a file that is to be written, and removes it.
+pub fn sweep(path: &Path) {
+    for swept in pending::sweep(path) {
+        complain(&format!("removed {}, which a killed run had left", swept.display()));
+    }
+}
+
+/// The picture gets its name first. If it has not, nothing was done; if it has, the journal that belongs to it follows.
+fn settle(journal: &Path, out: &Path, intent: &Intent) -> Result<(), String> {
+    let strange = |path: &PathBuf| path.file_name().and_then(pending::target_name).is_none();
+    if strange(&intent.picture) || strange(&intent.journal) {
+        return Err(format!("{}.lock is damaged: it names files that are not temporary", journal.display()));
+    }
+    if files::exists(&intent.picture) {
+        return take_back(journal, intent);
+    }
+    if !files::exists(&intent.journal) {
+        return Ok(());
+    }
+    let put = |name: &Path| {
+        let done = fs::rename(&intent.journal, name).and_then(|()| files::sync_folder(name));
+        done.map_err(|error| format!("cannot write {}: {error}", name.display()))
+    };
+    // Only if the picture is the one this journal can undo, and no other file has come to stand there.
+    if fits(&intent.journal, out) && (!files::exists(journal) || Journal::is_one(journal)?) {
+        if let Some(kept) = intent.kept.as_ref().filter(|kept| files::exists(journal) && !files::exists(kept)) {
+            pending::link(journal, kept, &mut Progress::new())?;
+        }
+        put(journal)?;
+        complain(&format!("it had written {}; its journal has been put in place now", out.display()));
+        return Ok(());
+    }
+    let kept = files::free_name(journal);
+    put(&kept)?;
+    complain(&format!("{} is not what it wrote; its journal is kept as {}", out.display(), kept.display()));
+    Ok(())
+}
+
+/// Removes what the run had made. The journal goes first: alone, it would seem to follow a picture that has its name.
+fn take_back(journal: &Path, intent: &Intent) -> Result<(), String> {
+    if let Some(kept) = &intent.kept {
+        if is_one_file(kept, journal) {
+            remove(kept)?;
+        }
+    }
+    for path in [&intent.journal, &intent.picture] {
+        if files::exists(path) {
+            remove(path)?;
+            complain(&format!("removed {}, which it had left", path.display()));
+        }
+    }
+    Ok(())
+}
+
+fn remove(path: &Path) -> Result<(), String> {
+    fs::remove_file(path).map_err(|error| format!("cannot remove {}: {error}", path.display()))
+}
+
+fn is_one_file(one: &Path, other: &Path) -> bool {
+    let number = |path: &Path| path.symlink_metadata().map(|there| (there.dev(), there.ino())).ok();
+    number(one).is_some() && number(one) == number(other)
+}
+
+/// Whether the journal is whole and undoes what has led to this picture.
+fn fits(journal: &Path, picture: &Path) -> bool {
+    sheet_files::load(picture, &mut Progress::new()).is_ok_and(|sheet| Journal::load(journal, &sheet).is_ok())
+}
