@@ -13,7 +13,7 @@ use face::Clip;
 use crate::bytes::{u32_at, u64_at};
 use crate::library::{self, Surface};
 use crate::sheet::Sheet;
-use crate::{crc, files, words};
+use crate::{crc, file_kinds, files, words};
 
 const MARK: &[u8; 8] = b"lacrjrnl";
 const VERSION: u32 = 1;
@@ -95,7 +95,8 @@ impl Journal {
 
     fn parse(mut bytes: Vec<u8>, sheet: &Sheet) -> Result<Journal, Refusal> {
         if !bytes.starts_with(MARK) {
-            return Err(Refusal::Foreign("this is no journal: it does not begin as one".to_string()));
+            let unknown = || "this is no journal: it does not begin as one".to_string();
+            return Err(Refusal::Foreign(file_kinds::mixed_up(&bytes, "a journal").unwrap_or_else(unknown)));
         }
         let unfit = |words: &str| Refusal::Unfit(words.to_string());
         let header = |at| u32_at(&bytes, at).ok_or_else(|| unfit("the journal is cut off"));

@@ -10,7 +10,7 @@ fn prepared(name: &str) -> Folder {
     let folder = Folder::new(name);
     folder.put_sheet("sheet.png", &noisy_sheet(40, 30, true));
     folder.put_sheet("sheet.bmp", &noisy_sheet(41, 30, false));
-    folder.put_sheet("deep.bmp", &noisy_sheet(39, 31, true));
+    folder.put_sheet("deep.bmp", &noisy_sheet(43, 31, true));
     folder
         .put("a.emf", &emf(&[blend_record([3, 4, 20, 10], 0x8040_2010), other_record(), mask_record([0, 0, 33, 30])]));
     folder.put("b.emf", &emf(&[stretch_record([10, 2, 25, 27], 0x88), brush_record([39, 29, 500, 500])]));
@@ -32,7 +32,7 @@ fn help_and_version() {
     assert!(folder.run("--help").expect(0).out.contains("lacrumont play SHEET"));
     for command in ["info", "play", "undo", "journal"] {
         let help = folder.run(&format!("{command} --help")).expect(0).out;
-        assert!(help.starts_with(&format!("lacrumont {command} ")) && help.contains("Exit code"));
+        assert!(help.starts_with(&format!("lacrumont {command} ")) && help.contains("Exit status"));
         assert!(help.lines().all(|line| line.chars().count() <= 120));
     }
 }
@@ -110,7 +110,8 @@ fn damaged_files_are_errors() {
         (damage(40, 0), "no \" EMF\" at byte 40"),
         (damage(248, 15), "the file ends at 268 without an EOF record (type 14)"),
         (cut(170), "offset 168: 2 bytes left, too few for a record"),
-        (cut(0), "offset 0: 0 bytes left, too few for a record"),
+        (cut(7), "offset 0: 7 bytes left, too few for a record"),
+        (cut(0), "this is an empty file, not an EMF file"),
     ];
     for (file, words) in cases {
         folder.put("damaged.emf", &file);
@@ -263,8 +264,10 @@ fn one_file_has_one_part() {
     folder.run("undo sheet.png --journal ./out.png -o out.png").fails("the journal and OUT at once");
     // Not a journal: kept, whatever is asked for.
     let both = "--force --new-journal";
-    folder.run(&format!("play sheet.png a.emf -o o.png --journal b.emf {both}")).fails("b.emf: this is no journal");
-    folder.run("undo sheet.png --journal b.emf -o o.png").fails("b.emf: this is no journal");
+    folder
+        .run(&format!("play sheet.png a.emf -o o.png --journal b.emf {both}"))
+        .fails("b.emf: this is an EMF file, not a journal");
+    folder.run("undo sheet.png --journal b.emf -o o.png").fails("b.emf: this is an EMF file, not a journal");
     assert!(!folder.has("o.png") && !folder.has("out.png"));
 }
 
