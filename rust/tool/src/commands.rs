@@ -16,8 +16,8 @@ const HELP: &str = "\
 lacrumont plays the bitmap records of EMF files onto a sheet (an orthophoto), keeps a journal of every old pixel,
 and takes plays back.
 
-  lacrumont info FILE.emf
-      lists the file's bitmap records and says of each whether it can be played
+  lacrumont info FILE.emf [FILE.emf ..] [--json]
+      lists the files' bitmap records and says of each whether it can be played
   lacrumont play SHEET FILE.emf [FILE.emf ..] -o OUT [--clip L,T,R,B] [--brush RRGGBB] [--journal FILE] [--force]
       plays the files' bitmap records in order onto the sheet and writes OUT
   lacrumont undo SHEET --journal FILE -o OUT [--plays N | --all] [--force]

@@ -1,4 +1,6 @@
-//! EMF files and sheets for the tests, and the tool to run on them.
+//! EMF files and sheets for the tests, and the tool to run on them. No test file uses all of it.
+
+#![allow(dead_code)]
 
 use std::fs;
 use std::path::{Path, PathBuf};
