@@ -2,6 +2,8 @@
 
 #![allow(dead_code)]
 
+pub mod json;
+
 use std::fs;
 use std::path::{Path, PathBuf};
 use std::process::Command;
@@ -111,7 +113,7 @@ pub fn noisy_sheet(width: u32, height: u32, deep: bool) -> Sheet {
 pub type Area = [i32; 4];
 
 /// A picture under a 40-byte header; its table is whole.
-fn picture(width: i32, height: i32, bits: u16, table: &[u32], pixels: &[u8]) -> Picture {
+pub fn picture(width: i32, height: i32, bits: u16, table: &[u32], pixels: &[u8]) -> Picture {
     Picture { header: Header::new(40, width, height, bits), table: table.to_vec(), pixels: pixels.to_vec() }
 }
 

@@ -173,7 +173,9 @@ fn operation(operation: Operation) -> String {
         Operation::Transparent { colour: [red, green, blue] } => {
             format!("copy all but the transparent colour {red}, {green}, {blue} (red, green, blue)")
         }
-        Operation::Scans { start, count } => format!("copy {count} stored rows from row {start} on"),
+        Operation::Scans { start, count } => {
+            format!("copy {} from row {start} on", words::things(count.into(), "stored row"))
+        }
         Operation::Copy => "copy".to_string(),
     }
 }
