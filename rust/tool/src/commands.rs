@@ -1,4 +1,4 @@
-//! The commands. Each gives the exit code: 0 all went well, 2 a record was refused; an error in words becomes 1.
+//! The commands. Each gives the exit status; an error in words becomes 1.
 
 mod arguments;
 mod choice;
@@ -21,10 +21,10 @@ const HELP: &str = "\
 lacrumont plays the bitmap records of EMF files onto a sheet (an orthophoto), keeps a journal of every old pixel,
 and takes plays back.
 
-  lacrumont info FILE.emf
-      lists the file's bitmap records and says of each whether it can be played
-  lacrumont play SHEET FILE.emf [FILE.emf ..] -o OUT [--clip L,T,R,B] [--brush RRGGBB] [--force]
-                 [--journal FILE] [--new-journal] [--no-wait]
+  lacrumont info FILE.emf [FILE.emf ..] [--json]
+      lists the files' bitmap records, says of each whether it can be played, and what in a file is not honoured
+  lacrumont play SHEET FILE.emf [FILE.emf ..] -o OUT [--clip L,T,R,B] [--brush RRGGBB] [--only N[,N]] [--skip N[,N]]
+                 [--strict] [--dry-run] [--force] [--journal FILE [--new-journal] [--no-wait]]
       plays the files' bitmap records in order onto the sheet and writes OUT
   lacrumont undo SHEET --journal FILE -o OUT [--plays N | --all] [--force] [--no-wait]
       takes plays back and writes OUT
@@ -34,12 +34,16 @@ and takes plays back.
   lacrumont COMMAND --help   more on a command
   lacrumont --version        the version
 
-Sheets are .png (8 bits a channel, not interlaced) or .bmp (24 or 32 bits, not compressed), sides 1 to 4,096.
+Sheets are .png (up to 8 bits a channel) or .bmp (24 or 32 bits, not compressed), sides 1 to 4,096.
 A record is played if it is an alpha blend (0x72), a mask blit (0x4E) or a stretched DIB (0x51).
-Exit code: 0 all went well, 1 an error of files or use, 2 a record was refused.
+
+Exit status: 0  every wanted bitmap record was played (info: can be), and nothing was warned about
+             1  an error of files or use: nothing was written
+             2  a record was refused, or skipped because its type is not played
+             3  nothing worse than warnings
 ";
 
-/// Runs the command these arguments name, and gives the exit code.
+/// Runs the command these arguments name, and gives the exit status.
 pub fn run(arguments: Vec<OsString>) -> u8 {
     let mut out = Out::default();
     let ended = dispatch(&arguments, &mut out).and_then(|code| out.end().map(|()| code));

@@ -2,7 +2,7 @@
 
 use std::fmt;
 
-use crate::bytes::{i32_at, u32_at};
+use crate::bytes::u32_at;
 use crate::record_types::{self, EOF, HEADER};
 use crate::words;
 
@@ -23,12 +23,6 @@ impl Record<'_> {
     /// True for the three types that are played.
     pub fn is_played(&self) -> bool {
         record_types::played(self.kind).is_some()
-    }
-
-    /// Bounds (left, top, right, bottom); None where the record is too short for it.
-    pub fn bounds(&self) -> Option<[i32; 4]> {
-        let at = |place| i32_at(self.bytes, place);
-        Some([at(8)?, at(12)?, at(16)?, at(20)?])
     }
 }
 
@@ -199,8 +193,6 @@ mod tests {
         let places: Vec<(usize, u32, usize)> = records.iter().map(|r| (r.offset, r.kind, r.bytes.len())).collect();
         assert_eq!(places, [(0, 1, 88), (88, 0x51, 80), (168, 70, 12), (180, 14, 20)]);
         assert!(records[1].is_played() && !records[2].is_played());
-        assert_eq!(records[1].bounds(), Some([0; 4]));
-        assert_eq!(records[2].bounds(), None);
     }
 
     #[test]

@@ -197,3 +197,159 @@ fn operation(record: &[u8], at: OperationAt) -> Option<Operation> {
         OperationAt::Copy => Operation::Copy,
     })
 }
+
+#[cfg(test)]
+mod tests {
+    use super::*;
+    use crate::record_types::*;
+
+    /// A record of 200 bytes in which each 32-bit field holds its own place.
+    fn own_places(kind: u32) -> Vec<u8> {
+        let mut bytes: Vec<u8> = (0..50u32).flat_map(|at| (4 * at).to_le_bytes()).collect();
+        bytes[..4].copy_from_slice(&kind.to_le_bytes());
+        bytes
+    }
+
+    fn at([x, y, cx, cy]: [i32; 4]) -> Rectangle {
+        Rectangle { x, y, cx, cy }
+    }
+
+    /// Usage, offset and size of the header part, offset and size of the bits part.
+    fn fields(picture: Option<Picture>) -> Option<[u32; 5]> {
+        let Picture { usage, header_part, bits_part, .. } = picture?;
+        Some([usage, header_part.offset, header_part.size, bits_part.offset, bits_part.size])
+    }
+
+    #[test]
+    fn every_type_has_its_fields_at_their_places() {
+        let blit = (at([24, 28, 32, 36]), [80, 84, 88, 92, 96], Some(52));
+        let rows = [
+            (ALPHABLEND, 108, blit, at([44, 48, 100, 104])),
+            (MASKBLT, 128, blit, at([44, 48, 32, 36])),
+            (BITBLT, 100, blit, at([44, 48, 32, 36])),
+            (STRETCHBLT, 108, blit, at([44, 48, 100, 104])),
+            (TRANSPARENTBLT, 108, blit, at([44, 48, 100, 104])),
+            (STRETCHDIBITS, 80, (at([24, 28, 72, 76]), [64, 48, 52, 56, 60], None), at([32, 36, 40, 44])),
+            (SETDIBITSTODEVICE, 76, (at([24, 28, 40, 44]), [64, 48, 52, 56, 60], None), at([32, 36, 40, 44])),
+        ];
+        for (kind, end, (target, source, transform), from) in rows {
+            let facts = Facts::read(&own_places(kind));
+            assert_eq!((facts.kind, facts.size, facts.bounds), (Some(kind), Some(4), Some([8, 12, 16, 20])));
+            assert_eq!((facts.fixed_end(), facts.target), (Some(end), Some(Target::Rectangle(target))));
+            assert_eq!((facts.source_rectangle, fields(facts.source)), (Some(from), Some(source)));
+            let floats = transform.map(|at: u32| [0, 4, 8, 12, 16, 20].map(|k| f32::from_bits(at + k)));
+            assert_eq!(facts.transform, floats);
+            assert_eq!(facts.has_mask(), kind == MASKBLT);
+            assert_eq!(facts.mask_corner, (kind == MASKBLT).then_some([100, 104]));
+            assert_eq!(fields(facts.mask), (kind == MASKBLT).then_some([108, 112, 116, 120, 124]));
+        }
+    }
+
+    #[test]
+    fn a_parallelogram_has_its_own_places() {
+        let facts = Facts::read(&own_places(PLGBLT));
+        assert_eq!(facts.fixed_end(), Some(140));
+        assert_eq!(facts.target, Some(Target::Points([[24, 28], [32, 36], [40, 44]])));
+        assert_eq!(facts.source_rectangle, Some(at([48, 52, 56, 60])));
+        assert_eq!(facts.transform, Some([64, 68, 72, 76, 80, 84].map(f32::from_bits)));
+        assert_eq!(fields(facts.source), Some([92, 96, 100, 104, 108]));
+        assert_eq!(facts.mask_corner, Some([112, 116]));
+        assert_eq!(fields(facts.mask), Some([120, 124, 128, 132, 136]));
+        assert_eq!((facts.operation, facts.target_rectangle()), (Some(Operation::Copy), None));
+    }
+
+    fn operation_of(kind: u32, place: usize, field: u32) -> Facts {
+        let mut bytes = own_places(kind);
+        bytes[place..place + 4].copy_from_slice(&field.to_le_bytes());
+        Facts::read(&bytes)
+    }
+
+    #[test]
+    fn operations() {
+        let is = |kind, place| operation_of(kind, place, 0x04_03_02_01).operation.unwrap();
+        let blend = Operation::Blend { operation: 1, flags: 2, constant_alpha: 3, format: 4 };
+        assert_eq!(is(ALPHABLEND, 40), blend);
+        assert_eq!(is(MASKBLT, 40), Operation::Rop4 { field: 0x0403_0201, foreground: 3, background: 4 });
+        for (kind, place) in [(BITBLT, 40), (STRETCHBLT, 40), (STRETCHDIBITS, 68)] {
+            assert_eq!(is(kind, place), Operation::Rop { field: 0x0403_0201, raster: 3 });
+        }
+        assert_eq!(is(TRANSPARENTBLT, 40), Operation::Transparent { colour: [1, 2, 3] });
+        assert_eq!(is(SETDIBITSTODEVICE, 68), Operation::Scans { start: 0x0403_0201, count: 72 });
+    }
+
+    #[test]
+    fn operations_that_use_the_brush() {
+        // PATCOPY, PATINVERT, MERGECOPY and PATPAINT name the pattern; the others do not.
+        for (raster, uses) in [(0xF0, true), (0x5A, true), (0xC0, true), (0xFB, true), (0xCC, false), (0xAA, false)] {
+            assert_eq!(operation_of(STRETCHDIBITS, 68, raster << 16).uses_brush(), uses);
+            assert_eq!(operation_of(MASKBLT, 40, raster << 16 | 0xCC00_0000).uses_brush(), uses);
+            assert_eq!(operation_of(MASKBLT, 40, raster << 24 | 0x00CC_0000).uses_brush(), uses);
+            assert!(!operation_of(ALPHABLEND, 40, raster << 16).uses_brush());
+        }
+        assert!(!operation_of(STRETCHDIBITS, 68, 0xF000_F0F0).uses_brush());
+    }
+
+    #[test]
+    fn targets_cover_pixels_before_a_negative_extent() {
+        let covered = |numbers| at(numbers).covered();
+        assert_eq!(covered([3, 4, 20, 10]), [3, 4, 23, 14]);
+        assert_eq!(covered([3, 4, -20, 10]), [-17, 4, 3, 14]);
+        assert_eq!(covered([0, 0, 5, -1]), [0, -1, 5, 0]);
+        let (least, most) = (i64::from(i32::MIN), i64::from(i32::MAX));
+        assert_eq!(covered([i32::MIN, i32::MAX, i32::MIN, i32::MAX]), [2 * least, most, least, 2 * most]);
+        assert_eq!(Facts::read(&own_places(STRETCHDIBITS)).target_rectangle(), Some([24, 28, 96, 104]));
+    }
+
+    /// A DIB of these fields in a record that ends behind so many of its bytes.
+    fn header_of(fields: &[u8], claimed: u32) -> Option<Header> {
+        let mut bytes = own_places(STRETCHDIBITS)[..80].to_vec();
+        bytes[48..56].copy_from_slice(&[80u32.to_le_bytes(), claimed.to_le_bytes()].concat());
+        bytes.extend(fields);
+        Facts::read(&bytes).source.unwrap().header
+    }
+
+    #[test]
+    fn headers_whole_and_cut() {
+        let info: Vec<u8> = [40u32, 7, 0xFFFF_FFFB, 0x0020_0001, 3, 1, 2, 3, 9, 4, 0xA, 0xB, 0xC, 0xD]
+            .into_iter()
+            .flat_map(u32::to_le_bytes)
+            .collect();
+        let masks = Some(Masks { red: 0xA, green: 0xB, blue: 0xC, alpha: None });
+        let whole = Header {
+            size: 40,
+            width: Some(7),
+            height: Some(-5),
+            planes: Some(1),
+            bits: Some(32),
+            compression: Some(3),
+            used: Some(9),
+            masks,
+        };
+        assert_eq!(header_of(&info, 52), Some(whole));
+        assert_eq!(header_of(&info, 40), Some(Header { masks: None, ..whole }));
+        // Neither the part's end nor the record's is passed.
+        for cut in [header_of(&info, 14), header_of(&info[..14], 99), header_of(&info[..14], u32::MAX)] {
+            let cut = cut.unwrap();
+            assert_eq!((cut.planes, cut.bits, cut.compression, cut.used), (Some(1), None, None, None));
+        }
+        assert_eq!((header_of(&info, 3), header_of(&info[..3], 40)), (None, None));
+        let long = [&108u32.to_le_bytes(), &info[4..]].concat();
+        assert_eq!(header_of(&long, 108).unwrap().masks.unwrap().alpha, Some(0xD));
+        let core = header_of(&[12, 0, 0, 0, 7, 0, 5, 0, 1, 0, 24, 0], 12).unwrap();
+        assert_eq!((core.width, core.height, core.planes, core.bits), (Some(7), Some(5), Some(1), Some(24)));
+    }
+
+    #[test]
+    fn any_bytes_have_facts() {
+        for kind in 0..=0x80 {
+            let whole = own_places(kind);
+            for length in 0..whole.len() {
+                let facts = Facts::read(&whole[..length]);
+                assert_eq!(facts.length, length);
+                assert_eq!(facts.size.is_some(), length >= 8);
+                assert_eq!(facts.bounds.is_some(), length >= 24 && is_bitmap(kind));
+            }
+        }
+        assert_eq!(Facts::read(&own_places(HEADER)).target, None);
+    }
+}

@@ -47,8 +47,8 @@ impl Listed<'_> {
 
     /// How many pixels a play of it counts under this cut clip, or why none. None where the record is too short to tell.
     pub fn reach(&self, clip: Area) -> Option<Result<u64, String>> {
-        let bounds = self.record.bounds()?;
-        let target = Area::of(Facts::read(self.record.bytes).target_rectangle()?);
+        let facts = Facts::read(self.record.bytes);
+        let (bounds, target) = (facts.bounds?, Area::of(facts.target_rectangle()?));
         Some(reach(bounds, target, clip).map_err(|nothing| nothing.words(bounds, target, clip)))
     }
 }
@@ -59,21 +59,33 @@ pub struct Survey<'a> {
     pub others: u64,
     /// One line for each thing that is not honoured, without the file's name.
     pub warnings: Vec<String>,
+    /// Why the walk has ended before the EOF record; all else tells of what came before.
+    pub damage: Option<Damage>,
 }
 
 /// Walks the file. `brush` is the colour that plays will use; `wanted` says which numbers are to be played.
-pub fn survey(bytes: &[u8], brush: u32, wanted: impl Fn(usize) -> bool) -> Result<Survey<'_>, Damage> {
+pub fn survey(bytes: &[u8], brush: u32, wanted: impl Fn(usize) -> bool) -> Survey<'_> {
     let mut seen = Seen::new(brush);
+    let mut damage = None;
     let mut walk = emf::walk(bytes);
     for step in walk.by_ref() {
-        let record = step?;
-        if record_types::is_bitmap(record.kind) {
-            seen.bitmap(record, &wanted);
-        } else if record.kind != HEADER && record.kind != EOF {
-            seen.other(&record);
+        match step {
+            Ok(record) if record_types::is_bitmap(record.kind) => seen.bitmap(record, &wanted),
+            Ok(record) if record.kind != HEADER && record.kind != EOF => seen.other(&record),
+            Ok(_) => {}
+            Err(found) => damage = Some(found),
         }
     }
-    Ok(seen.end(walk.left()))
+    // They do no harm, but whoever made the file may have meant them to be played.
+    let behind = if damage.is_none() { walk.left() } else { 0 };
+    let mut warnings = seen.warnings();
+    if damage.is_none() && seen.records.is_empty() {
+        warnings.push("no bitmap record: nothing of this file is drawn".to_string());
+    }
+    if behind > 0 {
+        warnings.push(format!("{} behind the EOF record not looked at", words::things(behind as u64, "byte")));
+    }
+    Survey { records: seen.records, others: seen.others, warnings, damage }
 }
 
 /// What the walk has come by.
@@ -165,7 +177,7 @@ impl<'a> Seen<'a> {
         self.device.take(record);
     }
 
-    fn end(self, behind: usize) -> Survey<'a> {
+    fn warnings(&self) -> Vec<String> {
         let mut warnings = Vec::new();
         for (at, (words, numbers)) in &self.settings {
             let (name, records) = (record_types::name(at.kind), words::records(numbers));
@@ -188,14 +200,7 @@ impl<'a> Seen<'a> {
         if self.unknown > 0 {
             warnings.push(format!("{} of unknown types not played", words::things(self.unknown, "record")));
         }
-        if self.records.is_empty() {
-            warnings.push("no bitmap record: nothing of this file is drawn".to_string());
-        }
-        // They do no harm, but whoever made the file may have meant them to be played.
-        if behind > 0 {
-            warnings.push(format!("{} behind the EOF record not looked at", words::things(behind as u64, "byte")));
-        }
-        Survey { records: self.records, others: self.others, warnings }
+        warnings
     }
 }
 

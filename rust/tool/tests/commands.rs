@@ -43,7 +43,7 @@ fn wrong_use() {
     let before = folder.names();
     folder.run("").fails("no command is given");
     folder.run("draw").fails("there is no command draw");
-    folder.run("info").fails("info needs one file");
+    folder.run("info").fails("info needs one or more files");
     folder.run("play sheet.png -o out.png").fails("one or more EMF files");
     folder.run("play sheet.png a.emf").fails("-o OUT is missing");
     folder.run("play sheet.png a.emf -o out.jpg").fails(".png or .bmp");
@@ -64,32 +64,6 @@ fn wrong_use() {
     folder.run("journal --journal j").fails("journal needs one sheet");
     folder.run("journal sheet.png --journal j").fails("cannot read j");
     assert_eq!(folder.names(), before);
-}
-
-#[test]
-fn info_lists_bitmap_records() {
-    let folder = prepared("info_lists_bitmap_records");
-    let out = folder.run("info a.emf").expect(0).out;
-    let lines: Vec<&str> = out.lines().collect();
-    assert_eq!(lines.len(), 4);
-    let bounds = "Bounds 0, 0, 4095, 4095";
-    let good = "status 0: can be played";
-    let blend =
-        format!("offset 88: alpha blend (EMR_ALPHABLEND, 0x72), Size 152, {bounds}; source 1 by 1, 32 bits; {good}");
-    let mask = format!("offset 252: mask blit (EMR_MASKBLT, 0x4E), Size 184, {bounds}; mask 8 by 2, 1 bit; {good}");
-    assert_eq!(lines[1..3], [blend, mask]);
-    assert_eq!(lines[3], "2 bitmap records, all can be played; 1 other record skipped");
-    let out = folder.run("info refused.emf").expect(2).out;
-    assert!(out.contains("status 11: the blend's operation"));
-    assert!(out.contains("3 bitmap records, 1 would be refused; 0 other records skipped"));
-    // The bits begin with the header's last byte.
-    let mut shared = stretch_record([0, 0, 4, 4], 0xCC);
-    shared[56] -= 1;
-    folder.put("shared.emf", &emf(&[shared]));
-    let out = folder.run("info shared.emf").expect(2).out;
-    assert!(out.contains("status 21: two of the record's parts share bytes\n"), "{out}");
-    folder.put("short.emf", &emf(&[vec![0x72, 0, 0, 0, 8, 0, 0, 0]]));
-    assert!(folder.run("info short.emf").expect(2).out.contains("Size 8, no Bounds; status 5"));
 }
 
 #[test]
@@ -120,14 +94,6 @@ fn damaged_files_are_errors() {
         folder.run("play sheet.png a.emf damaged.emf -o out.png --journal j").fails(words);
         assert!(!folder.has("out.png") && !folder.has("j"));
     }
-    let listed = folder.run("info damaged.emf").expect(1).out;
-    assert_eq!(listed, "damaged.emf: 0 bytes\n");
-    folder.put("damaged.emf", &damage(172, 0));
-    assert!(folder.run("info damaged.emf").expect(1).out.contains("offset 88: stretched DIB"));
-    let mut long = folder.get("a.emf");
-    long.extend([0; 5]);
-    folder.put("long.emf", &long);
-    assert!(folder.run("info long.emf").expect(0).err.contains("5 bytes behind the EOF record"));
 }
 
 #[test]

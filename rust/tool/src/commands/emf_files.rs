@@ -2,7 +2,7 @@
 
 use std::path::Path;
 
-use crate::survey::{self, Survey};
+use crate::emf::Damage;
 use crate::{file_kinds, files};
 
 /// Far more than a real EMF file has; it keeps a wrong file from filling the memory.
@@ -16,12 +16,7 @@ pub fn read(path: &Path) -> Result<Vec<u8>, String> {
     }
 }
 
-/// The file's survey. A damaged file is an error.
-pub fn survey<'a>(
-    path: &Path,
-    bytes: &'a [u8],
-    brush: u32,
-    wanted: impl Fn(usize) -> bool,
-) -> Result<Survey<'a>, String> {
-    survey::survey(bytes, brush, wanted).map_err(|damage| format!("{} is damaged: {damage}", path.display()))
+/// What is said of a damaged file.
+pub fn damaged(path: &Path, damage: &Damage) -> String {
+    format!("{} is damaged: {damage}", path.display())
 }

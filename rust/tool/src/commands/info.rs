@@ -1,24 +1,92 @@
-//! `lacrumont info`: what a file's bitmap records are, and whether they can be played.
+//! `lacrumont info`: what the bitmap records of files are, and whether they can be played.
+
+mod json;
+mod text;
 
 use std::ffi::OsString;
+use std::path::Path;
+
+use face::constants::{MOST_SIDE, OK};
 
 use super::arguments::Known;
 use super::emf_files;
-use super::output::{Out, FINE, REFUSED};
-use crate::emf::Record;
+use super::output::{complain, Out, ERROR, FINE, REFUSED, WARNED};
+use crate::facts::Facts;
 use crate::library::{self, Which};
-use crate::{record_types, words};
+use crate::reach::Area;
+use crate::survey::{survey, Fate, Listed};
+use crate::{reasons, words};
 
-const KNOWN: Known = Known { command: "info", valued: &[], flags: &[] };
+const KNOWN: Known = Known { command: "info", valued: &[], flags: &["--json"] };
 
 const HELP: &str = "\
-lacrumont info FILE.emf
+lacrumont info FILE.emf [FILE.emf ..] [--json]
 
-Lists the file's bitmap records (alpha blend 0x72, mask blit 0x4E, stretched DIB 0x51): offset in the file, type,
-Size in bytes, Bounds (left, top, right, bottom), and the status its reading gives. Other records are counted.
+Lists the bitmap records of each file and says of each whether it can be played, before anything is written: number
+(1, 2, 3 .. in the file's order), offset in the file, type, Size in bytes, Bounds (left, top, right, bottom), target,
+source rectangle, pictures, operation, status. A record that would be refused is listed with the reason. Numbers count
+all eight bitmap types: EMR_BITBLT, EMR_STRETCHBLT, EMR_MASKBLT, EMR_PLGBLT, EMR_SETDIBITSTODEVICE, EMR_STRETCHDIBITS,
+EMR_ALPHABLEND and EMR_TRANSPARENTBLT. Other records are counted at the file's end.
 
-Exit code: 0 all can be played, 1 an error of files or use, 2 a record would be refused.
+What a file sets and play does not honour (mappings, clips, brushes, other drawing) is told as warnings, and so is a
+record that would draw nothing on any sheet. `play --dry-run` tells the same for a sheet. A file that cannot be read or
+is damaged is told on standard error; the others are still listed.
+
+  --json   one JSON document with the same facts: an object whose \"files\" is an array; what is absent is null
+
+Exit status, the first that applies:
+  1  an error of files or use
+  2  a bitmap record would be refused, or is of a type that is not played
+  3  there are warnings
+  0  every bitmap record can be played
 ";
+
+/// What was found out about one bitmap record.
+struct Entry {
+    /// Its place among the file's bitmap records, from 1 on.
+    number: usize,
+    offset: usize,
+    facts: Facts,
+    /// The library's judgement; 0 where the record can be played.
+    status: u32,
+    warnings: Vec<String>,
+    verdict: Verdict,
+}
+
+enum Verdict {
+    Playable,
+    Refused(String),
+    /// Of a type that is not played.
+    NotPlayed,
+}
+
+/// Said of a type that is not.
+const PLAYED_TYPES: &str = "this tool plays EMR_ALPHABLEND, EMR_MASKBLT and EMR_STRETCHDIBITS";
+
+/// What is told at a file's end.
+#[derive(Default)]
+struct Summary {
+    playable: u64,
+    refused: u64,
+    not_played: u64,
+    /// Records without a bitmap, but for the header and EOF.
+    others: u64,
+    /// Warnings of all its records together.
+    record_warnings: u64,
+    /// Warnings of the file itself.
+    warnings: Vec<String>,
+    error: Option<String>,
+}
+
+/// A listing under way. Each record is written as it is met: a file can have more than the memory holds.
+trait Listing {
+    fn begin(&mut self, out: &mut Out);
+    fn unreadable(&mut self, path: &Path, error: &str, out: &mut Out);
+    fn file(&mut self, path: &Path, bytes: usize, out: &mut Out);
+    fn record(&mut self, entry: &Entry, out: &mut Out);
+    fn file_end(&mut self, summary: &Summary, out: &mut Out);
+    fn end(&mut self, out: &mut Out);
+}
 
 pub fn run(arguments: &[OsString], out: &mut Out) -> Result<u8, String> {
     let parsed = KNOWN.parse(arguments)?;
@@ -26,57 +94,118 @@ pub fn run(arguments: &[OsString], out: &mut Out) -> Result<u8, String> {
         out.text(HELP);
         return Ok(FINE);
     }
-    let [path] = &parsed.plain[..] else {
-        return Err(KNOWN.wrong("info needs one file"));
-    };
-    let bytes = emf_files::read(path)?;
-    out.line(&format!("{}: {} bytes", path.display(), words::count(bytes.len() as u64)));
-    let (mut listed, mut refused) = (0, 0);
-    let survey = emf_files::survey(path, &bytes, 0, |_| true)?;
-    let others = survey.others;
-    for record in &survey.records {
-        let (line, good) = describe(&record.record);
-        out.line(&line);
-        listed += 1;
-        refused += u64::from(!good);
+    if parsed.plain.is_empty() {
+        return Err(KNOWN.wrong("info needs one or more files"));
     }
-    let would = if refused == 0 { "all can be played".to_string() } else { format!("{refused} would be refused") };
-    let would = if listed == 0 { "nothing to play".to_string() } else { would };
-    out.line(&format!(
-        "{}, {would}; {} skipped",
-        words::things(listed, "bitmap record"),
-        words::things(others, "other record")
-    ));
-    Ok(if refused == 0 { FINE } else { REFUSED })
+    let mut text = text::Text::default();
+    let mut json = json::Json::default();
+    let listing: &mut dyn Listing = if parsed.has("--json") { &mut json } else { &mut text };
+    listing.begin(out);
+    let code = parsed.plain.iter().fold(FINE, |code, path| worse(code, list(path, listing, out)));
+    listing.end(out);
+    Ok(code)
 }
 
-/// One line on a record, and whether it can be played.
-fn describe(record: &Record) -> (String, bool) {
-    let bounds = match record.bounds() {
-        Some([left, top, right, bottom]) => format!("Bounds {left}, {top}, {right}, {bottom}"),
-        None => "no Bounds".to_string(),
-    };
-    let reading = library::read(record.bytes, Which::Source);
-    let pictures = match reading {
-        Ok(source) => {
-            let mut text = String::new();
-            let mask = library::read(record.bytes, Which::Mask).ok();
-            for (name, picture) in [("source", Some(source)), ("mask", mask)] {
-                if let Some(picture) = picture.filter(|picture| picture.width > 0) {
-                    let unit = if picture.bits == 1 { "bit" } else { "bits" };
-                    text += &format!("; {name} {} by {}, {} {unit}", picture.width, picture.rows, picture.bits);
-                }
-            }
-            text
+/// The exit status that wins: 1 over 2 over 3 over 0.
+fn worse(one: u8, other: u8) -> u8 {
+    match (one, other) {
+        (FINE, code) | (code, FINE) => code,
+        _ => one.min(other),
+    }
+}
+
+/// Lists one file, and gives its exit status.
+fn list(path: &Path, listing: &mut dyn Listing, out: &mut Out) -> u8 {
+    let bytes = match emf_files::read(path) {
+        Ok(bytes) => bytes,
+        Err(words) => {
+            complain(&words);
+            listing.unreadable(path, &words, out);
+            return ERROR;
         }
-        Err(_) => String::new(),
     };
-    let line = format!(
-        "offset {}: {}, Size {}, {bounds}{pictures}; {}",
-        record.offset,
-        record_types::named(record.kind),
-        record.bytes.len(),
-        words::numbered(reading.err().unwrap_or(0))
-    );
-    (line, reading.is_ok())
+    listing.file(path, bytes.len(), out);
+    // Without a brush that is given, a play uses black.
+    let survey = survey(&bytes, 0, |_| true);
+    let mut summary = Summary { others: survey.others, warnings: survey.warnings, ..Summary::default() };
+    for listed in &survey.records {
+        let entry = examine(listed);
+        summary.add(&entry);
+        listing.record(&entry, out);
+    }
+    if let Some(damage) = &survey.damage {
+        let words = emf_files::damaged(path, damage);
+        complain(&words);
+        summary.error = Some(words);
+    }
+    listing.file_end(&summary, out);
+    summary.code()
+}
+
+fn examine(listed: &Listed) -> Entry {
+    let record = &listed.record;
+    let status = library::read(record.bytes, Which::Source).err().unwrap_or(OK);
+    let (verdict, warnings) = match listed.fate {
+        Fate::Refused(status) => {
+            let general = || words::status(status).to_string();
+            (Verdict::Refused(reasons::reason(record.bytes, status).unwrap_or_else(general)), Vec::new())
+        }
+        Fate::Skipped => (Verdict::NotPlayed, Vec::new()),
+        Fate::Played | Fate::LeftOut => (Verdict::Playable, nowhere(listed)),
+    };
+    Entry { number: listed.number, offset: record.offset, facts: Facts::read(record.bytes), status, warnings, verdict }
+}
+
+/// That a record draws nothing even on the largest sheet.
+fn nowhere(listed: &Listed) -> Vec<String> {
+    let largest = Area::of([0, 0, MOST_SIDE.into(), MOST_SIDE.into()]);
+    let why = listed.reach(largest).and_then(Result::err);
+    why.into_iter().map(|why| format!("it draws nothing on any sheet: {why}")).collect()
+}
+
+impl Summary {
+    fn bitmaps(&self) -> u64 {
+        self.playable + self.refused + self.not_played
+    }
+
+    fn add(&mut self, entry: &Entry) {
+        match entry.verdict {
+            Verdict::Playable => self.playable += 1,
+            Verdict::Refused(_) => self.refused += 1,
+            Verdict::NotPlayed => self.not_played += 1,
+        }
+        self.record_warnings += entry.warnings.len() as u64;
+    }
+
+    fn code(&self) -> u8 {
+        if self.error.is_some() {
+            ERROR
+        } else if self.refused + self.not_played > 0 {
+            REFUSED
+        } else if self.record_warnings > 0 || !self.warnings.is_empty() {
+            WARNED
+        } else {
+            FINE
+        }
+    }
+}
+
+#[cfg(test)]
+mod tests {
+    use super::*;
+
+    #[test]
+    fn an_error_wins_over_a_refusal_over_a_warning() {
+        for (one, other, wins) in [(0, 0, 0), (0, 3, 3), (3, 2, 2), (2, 1, 1), (1, 3, 1), (0, 1, 1)] {
+            assert_eq!((worse(one, other), worse(other, one)), (wins, wins));
+        }
+        let warned = Summary { warnings: vec!["x".to_string()], playable: 1, ..Summary::default() };
+        assert_eq!(warned.code(), WARNED);
+        assert_eq!(Summary { record_warnings: 1, ..Summary::default() }.code(), WARNED);
+        assert_eq!(Summary { refused: 1, ..warned }.code(), REFUSED);
+        let damaged = Summary { not_played: 1, error: Some("x".to_string()), ..Summary::default() };
+        assert_eq!(damaged.code(), ERROR);
+        assert_eq!(Summary { error: None, ..damaged }.code(), REFUSED);
+        assert_eq!(Summary { playable: 9, others: 9, ..Summary::default() }.code(), FINE);
+    }
 }

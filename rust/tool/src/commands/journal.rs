@@ -22,7 +22,7 @@ journal's records the play takes; then the records in use and free. SHEET must b
   --journal FILE   the journal that play has written
   --no-wait        an error if another run has the journal; without it, waits for that run
 
-Exit code: 0 all went well, 1 an error of files or use.
+Exit status: 0 all went well, 1 an error of files or use.
 ";
 
 pub fn run(arguments: &[OsString], out: &mut Out) -> Result<u8, String> {

@@ -6,7 +6,7 @@ pub const FINE: u8 = 0;
 pub const ERROR: u8 = 1;
 /// A record was refused or skipped.
 pub const REFUSED: u8 = 2;
-/// All was played, but something was warned about.
+/// Nothing worse than warnings.
 pub const WARNED: u8 = 3;
 
 /// Standard output. The first failure is kept for the end: what was asked for is done all the same.

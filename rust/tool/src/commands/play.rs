@@ -17,7 +17,7 @@ use crate::journal::{Journal, Refusal};
 use crate::lock::Lock;
 use crate::progress::Progress;
 use crate::sheet::Sheet;
-use crate::survey::{Fate, Listed};
+use crate::survey::{survey, Fate, Listed};
 use crate::{files, reasons, sheet_files, words};
 
 const KNOWN: Known = Known {
@@ -173,7 +173,10 @@ impl Asked {
     fn records<'a>(&'a self, files: &'a [Vec<u8>], tally: &mut Tally) -> Result<Vec<(&'a Path, Listed<'a>)>, String> {
         let mut records = Vec::new();
         for (path, bytes) in self.emfs.iter().zip(files) {
-            let survey = emf_files::survey(path, bytes, self.brush, |number| self.choice.has(number))?;
+            let survey = survey(bytes, self.brush, |number| self.choice.has(number));
+            if let Some(damage) = &survey.damage {
+                return Err(emf_files::damaged(path, damage));
+            }
             self.choice.check(survey.records.len()).map_err(|words| format!("{}: {words}", path.display()))?;
             for listed in survey.records {
                 match listed.fate {

@@ -28,7 +28,7 @@ be the sheet as the plays left it; if it is not, nothing is changed.
   --force          writes over OUT if it is there and not read-only
   --no-wait        an error if another run has the journal; without it, waits for that run
 
-Exit code: 0 all went well, 1 an error of files or use.
+Exit status: 0 all went well, 1 an error of files or use.
 ";
 
 pub fn run(arguments: &[OsString], out: &mut Out) -> Result<u8, String> {

@@ -30,10 +30,10 @@ pub fn header(picture: &Picture) -> Option<String> {
     };
     let part = picture.header_part.size;
     if listed_size(header.size) && part < header.size {
-        return Some(format!("{name} is too short for a header of {} bytes", header.size));
+        return Some(format!("{name} is below biSize {}", header.size));
     }
-    if let Some((words, bytes)) = needed(&header).filter(|(_, bytes)| part < *bytes) {
-        return Some(format!("{name} is too short for {words}, {bytes} bytes"));
+    if let Some((words, needed)) = needed(&header).filter(|(_, needed)| part < *needed) {
+        return Some(format!("{name} is below {needed}: {words}"));
     }
     unlisted(picture, &header).or_else(|| sides(picture, &header)).or_else(|| used(picture, &header))
 }
@@ -49,9 +49,9 @@ fn needed(header: &Header) -> Option<(String, u32)> {
     }
     let masks = if header.size == INFO && compression == BI_BITFIELDS { THREE_MASKS } else { 0 };
     let entries = if bits <= 8 && used == 0 { 1 << bits } else { used };
-    let masked = if masks > 0 { ", three masks" } else { "" };
-    let words = format!("a header of {} bytes{masked} and {entries} colours", header.size);
-    Some((words, header.size + masks + TABLE_ENTRY * entries))
+    let table = TABLE_ENTRY * entries;
+    let masked = if masks > 0 { format!(", three masks {masks} bytes") } else { String::new() };
+    Some((format!("biSize {}{masked}, colour table {table} bytes", header.size), header.size + masks + table))
 }
 
 fn listed_size(size: u32) -> bool {
@@ -122,7 +122,7 @@ fn used(picture: &Picture, header: &Header) -> Option<String> {
     let (used, bits) = (header.used?, header.bits?);
     let most = most_used(bits);
     let name = field(picture, "biClrUsed");
-    (u64::from(used) > most).then(|| format!("{name} {used} is above {most}, the most at {bits} bits"))
+    (u64::from(used) > most).then(|| format!("{name} {used} is above {most}, the most with biBitCount {bits}"))
 }
 
 /// A channel's name and mask.
@@ -180,5 +180,6 @@ pub fn bits(picture: &Picture) -> Option<String> {
     let needed = row.checked_mul(rows)?;
     let bytes = picture.bits_part.size;
     let name = format!("cbBits{}", picture.role.ending());
-    (u64::from(bytes) < needed).then(|| format!("{name} {bytes} is below {needed}: {rows} rows of {row} bytes"))
+    (u64::from(bytes) < needed)
+        .then(|| format!("{name} {bytes} is below {needed}, row length {row} times height {rows}"))
 }

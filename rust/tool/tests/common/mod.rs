@@ -1,6 +1,9 @@
-//! EMF files and sheets for the tests, and the tool to run on them.
+//! EMF files and sheets for the tests, and the tool to run on them. No test file uses all of it.
 
 #![allow(dead_code)]
+
+pub mod json;
+
 
 use std::fs;
 use std::path::{Path, PathBuf};
@@ -111,7 +114,7 @@ pub fn noisy_sheet(width: u32, height: u32, deep: bool) -> Sheet {
 pub type Area = [i32; 4];
 
 /// A picture under a 40-byte header; its table is whole.
-fn picture(width: i32, height: i32, bits: u16, table: &[u32], pixels: &[u8]) -> Picture {
+pub fn picture(width: i32, height: i32, bits: u16, table: &[u32], pixels: &[u8]) -> Picture {
     Picture { header: Header::new(40, width, height, bits), table: table.to_vec(), pixels: pixels.to_vec() }
 }
 
