@@ -151,14 +151,13 @@ fn a_dead_owner_is_seen() {
     let mut lock = held_lock(&folder, "j.lock");
     lock.write_all(b"out new.png\n").unwrap();
     folder.put(".new.png.4711-0.tmp", b"half");
-    let waiting = folder.command("journal out.png --journal j").stderr(Stdio::piped()).spawn().unwrap();
+    let mut listing = folder.command("journal out.png --journal j");
+    let waiting = listing.stdout(Stdio::null()).stderr(Stdio::piped()).spawn().unwrap();
     drop(lock);
     let ended = Ended::of(waiting.wait_with_output().unwrap()).expect(0);
     assert!(ended.err.contains("a run (process 4711) that had the journal j was cut short\n"), "{ended:?}");
     assert!(ended.err.contains("it had not written its results"));
-    assert!(
-        ended.err.contains("removed ") && ended.err.contains("/.new.png.4711-0.tmp, which a killed run had left\n")
-    );
+    assert!(ended.err.ends_with("lacrumont: removed .new.png.4711-0.tmp, which a killed run had left\n"));
     assert_eq!(folder.names(), ["a.emf", "b.emf", "j", "other.png", "out.png", "sheet.png"]);
     // A file of the lock's name that is none is not touched.
     folder.put("j.lock", b"mine");
