@@ -170,7 +170,8 @@ fn read(file: &mut File, path: &Path) -> Result<Option<Left>, String> {
         return Ok(Some(Left::default()));
     }
     let text = bytes.strip_prefix(MARK).ok_or_else(|| foreign(path))?;
-    Ok(Some(parse(text, files::folder(path))))
+    // Without the "." of a bare name, so that names stay as they were given.
+    Ok(Some(parse(text, path.parent().unwrap_or(Path::new("")))))
 }
 
 fn parse(text: &[u8], folder: &Path) -> Left {

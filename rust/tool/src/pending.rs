@@ -47,7 +47,7 @@ impl Rights {
         let owner = new.uid() == old.uid() || fchown(file, Some(old.uid()), None).is_ok();
         let mode = old.mode() & 0o777;
         // Another group's people were among all others before.
-        let mode = if group { mode } else { mode & 0o707 | (mode & 0o007) << 3 };
+        let mode = if group { mode } else { mode & (0o707 | (mode & 0o007) << 3) };
         file.set_permissions(Permissions::from_mode(mode))?;
         Ok(owner && group)
     }

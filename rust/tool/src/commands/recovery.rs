@@ -10,11 +10,13 @@ use crate::lock::{Intent, Left, Lock, NoLock};
 use crate::progress::Progress;
 use crate::{files, pending, sheet_files};
 
-/// Takes the journal's lock and sets right what a killed run left. `out` is the file this run will write.
+const NOT_WRITTEN: &str = "it had not written its results: all files are as they were before it";
+
+/// Takes the journal's lock and sets right what a run that was cut short left. `out` is the file this run will write.
 pub fn lock(journal: &Path, out: Option<&Path>, wait: bool) -> Result<Lock, NoLock> {
     let (mut lock, left) = Lock::take(journal, |process| busy(journal, process, wait))?;
     if let Some(left) = left {
-        recover(journal, &left)?;
+        recover(journal, &left, &mut lock)?;
     }
     lock.begin(out)?;
     Ok(lock)
@@ -29,13 +31,15 @@ fn busy(journal: &Path, process: Option<u32>, wait: bool) -> Result<(), String> 
     Err(format!("{run} has the journal {}; without --no-wait this one would wait for it", journal.display()))
 }
 
-/// A run that was killed is taken to its end if it had begun to give its files their names, and else back.
-fn recover(journal: &Path, left: &Left) -> Result<(), String> {
+/// A run that was cut short is taken to its end if it had begun to give its files their names, and else back.
+fn recover(journal: &Path, left: &Left, lock: &mut Lock) -> Result<(), String> {
     let run = left.process.map_or("a run".to_string(), |process| format!("a run (process {process})"));
-    complain(&format!("{run} that had the journal {} was killed", journal.display()));
+    complain(&format!("{run} that had the journal {} was cut short", journal.display()));
     let target = files::resolved(journal).map_err(|error| format!("cannot write {}: {error}", journal.display()))?;
-    if let (Some(intent), Some(out)) = (&left.intent, &left.out) {
-        settle(&target, out, intent)?;
+    match (&left.intent, &left.out) {
+        (Some(intent), Some(out)) => settle(&target, out, intent, lock)?,
+        (Some(_), None) => return Err(damaged(&target)),
+        (None, _) => complain(NOT_WRITTEN),
     }
     let kept = left.intent.as_ref().and_then(|intent| intent.kept.as_deref());
     for path in [left.out.as_deref(), kept, Some(target.as_path())].into_iter().flatten() {
@@ -52,15 +56,18 @@ pub fn sweep(path: &Path) {
 }
 
 /// The picture gets its name first. If it has not, nothing was done; if it has, the journal that belongs to it follows.
-fn settle(journal: &Path, out: &Path, intent: &Intent) -> Result<(), String> {
+fn settle(journal: &Path, out: &Path, intent: &Intent, lock: &mut Lock) -> Result<(), String> {
     let strange = |path: &PathBuf| path.file_name().and_then(pending::target_name).is_none();
     if strange(&intent.picture) || strange(&intent.journal) {
-        return Err(format!("{}.lock is damaged: it names files that are not temporary", journal.display()));
+        return Err(damaged(journal));
     }
     if files::exists(&intent.picture) {
+        // From here on the intent is void, so that a kill while the files go leaves no doubt.
+        lock.begin(Some(out))?;
         return take_back(journal, intent);
     }
     if !files::exists(&intent.journal) {
+        complain("it had written all its results");
         return Ok(());
     }
     let put = |name: &Path| {
@@ -82,13 +89,15 @@ fn settle(journal: &Path, out: &Path, intent: &Intent) -> Result<(), String> {
     Ok(())
 }
 
-/// Removes what the run had made. The journal goes first: alone, it would seem to follow a picture that has its name.
+/// Removes what the run had made. The journal goes first, as power may be lost before the lock is on the disk: alone,
+/// it would seem to follow a picture that has its name.
 fn take_back(journal: &Path, intent: &Intent) -> Result<(), String> {
     if let Some(kept) = &intent.kept {
         if is_one_file(kept, journal) {
             remove(kept)?;
         }
     }
+    complain(NOT_WRITTEN);
     for path in [&intent.journal, &intent.picture] {
         if files::exists(path) {
             remove(path)?;
@@ -96,6 +105,10 @@ fn take_back(journal: &Path, intent: &Intent) -> Result<(), String> {
         }
     }
     Ok(())
+}
+
+fn damaged(journal: &Path) -> String {
+    format!("{}.lock is damaged: what it says of the last run makes no sense", journal.display())
 }
 
 fn remove(path: &Path) -> Result<(), String> {

@@ -5,9 +5,12 @@
 pub mod json;
 
 
+// Not every test file needs all of it.
+#![allow(dead_code)]
+
 use std::fs;
 use std::path::{Path, PathBuf};
-use std::process::Command;
+use std::process::{Command, Output};
 
 use lacrumont_tool::library::Surface;
 use lacrumont_tool::progress::Progress;
@@ -62,16 +65,25 @@ impl Folder {
 
     /// Runs the tool inside the folder.
     pub fn run(&self, arguments: &str) -> Ended {
-        let ended = Command::new(env!("CARGO_BIN_EXE_lacrumont"))
-            .args(arguments.split_whitespace())
-            .current_dir(&self.0)
-            .output()
-            .unwrap();
-        Ended {
-            code: ended.status.code(),
-            out: String::from_utf8(ended.stdout).unwrap(),
-            err: String::from_utf8(ended.stderr).unwrap(),
-        }
+        Ended::of(self.command(arguments).output().unwrap())
+    }
+
+    /// The tool inside the folder, not yet started.
+    pub fn command(&self, arguments: &str) -> Command {
+        let mut command = Command::new(env!("CARGO_BIN_EXE_lacrumont"));
+        command.args(arguments.split_whitespace()).current_dir(&self.0);
+        command
+    }
+
+    /// Runs the tool inside the folder from a shell that does something first.
+    pub fn run_after(&self, first: &str, arguments: &str) -> Ended {
+        let script = format!("{first}; exec {} {arguments}", env!("CARGO_BIN_EXE_lacrumont"));
+        Ended::of(Command::new("bash").args(["-c", &script]).current_dir(&self.0).output().unwrap())
+    }
+
+    /// Every file with its bytes, to see that nothing has changed.
+    pub fn all(&self) -> Vec<(String, Vec<u8>)> {
+        self.names().into_iter().map(|name| (name.clone(), self.get(&name))).collect()
     }
 }
 
@@ -90,6 +102,14 @@ pub struct Ended {
 }
 
 impl Ended {
+    pub fn of(output: Output) -> Ended {
+        Ended {
+            code: output.status.code(),
+            out: String::from_utf8(output.stdout).unwrap(),
+            err: String::from_utf8(output.stderr).unwrap(),
+        }
+    }
+
     #[track_caller]
     pub fn expect(self, code: i32) -> Ended {
         assert_eq!(self.code, Some(code), "{self:?}");
