@@ -7,6 +7,8 @@
 #include <zlib.h>
 
 enum { PIXEL = 4, MOST_CHUNKS = 1000, MOST_CHUNK_BYTES = 8000000 };
+/* Of an orthophoto level 6 makes at most 8 % less, in more than twice the time. */
+enum { LEVEL = 4, BUFFER = 65536 };
 
 /* libpng calls back with a pointer to this; a reader and a writer each begin with one. */
 struct fault {
@@ -215,7 +217,7 @@ void png_shim_close(struct png_shim_reader *reader) {
 static void on_write(png_structp png, png_bytep from, size_t length) {
     struct png_shim_writer *writer = png_get_io_ptr(png);
     if (length > writer->room - writer->used) {
-        size_t room = writer->room * 2 + length + 65536;
+        size_t room = writer->room * 2 + length + BUFFER;
         uint8_t *out = realloc(writer->out, room);
         if (!out) png_error(png, "there is no memory left");
         writer->out = out;
@@ -232,7 +234,9 @@ static void on_flush(png_structp png) {
 static bool write_header(struct png_shim_writer *writer, uint32_t height) {
     if (setjmp(png_jmpbuf(writer->png))) return false;
     png_set_write_fn(writer->png, writer, on_write, on_flush);
-    png_set_compression_buffer_size(writer->png, 65536);
+    png_set_compression_level(writer->png, LEVEL);
+    png_set_filter(writer->png, PNG_FILTER_TYPE_BASE, PNG_ALL_FILTERS);
+    png_set_compression_buffer_size(writer->png, BUFFER);
     png_set_IHDR(writer->png, writer->info, writer->width, height, 8, PNG_COLOR_TYPE_RGB_ALPHA, PNG_INTERLACE_NONE,
                  PNG_COMPRESSION_TYPE_BASE, PNG_FILTER_TYPE_BASE);
     png_write_info(writer->png, writer->info);
