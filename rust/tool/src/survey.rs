@@ -57,7 +57,9 @@ pub struct Survey<'a> {
     pub records: Vec<Listed<'a>>,
     /// How many records are no bitmap records, beside header and EOF.
     pub others: u64,
-    /// One line for each thing that is not honoured, without the file's name.
+    /// One line for each type of bitmap records that is not played, without the file's name.
+    pub skipped: Vec<String>,
+    /// Likewise for each other thing that is not honoured.
     pub warnings: Vec<String>,
     /// Why the walk has ended before the EOF record; all else tells of what came before.
     pub damage: Option<Damage>,
@@ -85,7 +87,7 @@ pub fn survey(bytes: &[u8], brush: u32, wanted: impl Fn(usize) -> bool) -> Surve
     if behind > 0 {
         warnings.push(format!("{} behind the EOF record not looked at", words::things(behind as u64, "byte")));
     }
-    Survey { records: seen.records, others: seen.others, warnings, damage }
+    Survey { skipped: seen.skipped(), records: seen.records, others: seen.others, warnings, damage }
 }
 
 /// What the walk has come by.
@@ -177,15 +179,19 @@ impl<'a> Seen<'a> {
         self.device.take(record);
     }
 
+    fn skipped(&self) -> Vec<String> {
+        let line = |(kind, numbers): (&u32, &Vec<usize>)| {
+            let (count, name) = (words::things(numbers.len() as u64, "record"), record_types::named(*kind));
+            format!("{count} of type {name} not played: {}", words::records(numbers))
+        };
+        self.skipped.iter().map(line).collect()
+    }
+
     fn warnings(&self) -> Vec<String> {
         let mut warnings = Vec::new();
         for (at, (words, numbers)) in &self.settings {
             let (name, records) = (record_types::name(at.kind), words::records(numbers));
             warnings.push(format!("offset {}: {name}, in force at {records}: {words}", at.offset));
-        }
-        for (kind, numbers) in &self.skipped {
-            let (count, name) = (words::things(numbers.len() as u64, "record"), record_types::named(*kind));
-            warnings.push(format!("{count} of type {name} not played: {}", words::records(numbers)));
         }
         if !self.drawing.is_empty() {
             let each = |(kind, count): (&u32, &u64)| format!("{} {}", record_types::name(*kind), words::count(*count));

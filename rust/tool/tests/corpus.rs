@@ -204,17 +204,30 @@ fn strict_plays_a_file_whole_or_not_at_all() {
 fn info_tells_it_before() {
     let folder = prepared("info_tells_it_before");
     let before = folder.names();
-    for Case(name, code, counts, lines) in CASES {
-        let by_sheet = ["bounds-outside", "target-outside"].contains(name);
-        let ended = folder.run(&format!("info {name}.emf")).expect(if by_sheet { 0 } else { *code });
+    for Case(name, code, [_, nothing, refused, skipped], lines) in CASES {
+        let (code, told) = match *name {
+            "bounds-outside" => (0, 0),
+            // Of its two targets one lies on some sheets.
+            "target-outside" => (3, 1),
+            _ => (*code, lines.len() - *refused as usize),
+        };
+        let ended = folder.run(&format!("info {name}.emf")).expect(code);
         assert!(ended.err.is_empty(), "{name}: {}", ended.err);
-        if !by_sheet && counts[1] + counts[2] == 0 {
-            for words in *lines {
-                let words = words.split(".emf: ").last().unwrap();
-                assert!(ended.out.contains(words), "{name}: {:?} has no {words:?}", ended.out);
-            }
+        let count = |words: &str| ended.out.lines().filter(|line| line.trim_start().starts_with(words)).count();
+        assert_eq!(count("not played: "), *skipped as usize, "{name}");
+        if *skipped == 0 {
+            assert_eq!(count("warning: "), told, "{name}");
+        }
+        for line in lines.iter().filter(|_| *nothing + *skipped == 0) {
+            let words = line.strip_prefix("refused, ").unwrap_or(line);
+            let words = words.split(".emf: ").last().unwrap();
+            assert!(ended.out.contains(words), "{name}: {:?} has no {words:?}", ended.out);
         }
     }
+    let out = folder.run("info inverted-bounds.emf").expect(3).out;
+    let warning =
+        "  warning: it draws nothing on any sheet: its Bounds 0, 0, -1, -1 are inverted, so they meet nothing\n";
+    assert_eq!(out.matches(warning).count(), 2);
     assert_eq!(folder.names(), before);
 }
 

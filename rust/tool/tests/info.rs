@@ -233,15 +233,15 @@ record 1 at offset 88: stretched DIB (EMR_STRETCHDIBITS, 0x51), Size 80
     let expected = format!(
         "damaged.emf: 332 bytes\n{block}1 bitmap record before the damage: {one}; 0 other records\n\n\
          a.emf: 188 bytes\n{block}1 bitmap record: {one}; 0 other records\n\n\
-         empty.emf: 0 bytes\n0 bitmap records before the damage: {no}; 0 other records\n\n\
-         none.emf: 120 bytes\n0 bitmap records: {no}; 1 other record\n"
+         none.emf: 120 bytes\nwarning: no bitmap record: nothing of this file is drawn\n\
+         0 bitmap records: {no}; 1 other record\n"
     );
     assert_eq!(ended.out, expected);
     let told: Vec<&str> = ended.err.lines().collect();
     assert_eq!(told.len(), 3);
     assert_eq!(told[0], "lacrumont: damaged.emf is damaged: offset 168: the record's Size is 6; 8 is the least");
     assert!(told[1].starts_with("lacrumont: cannot read lost.emf: "));
-    assert_eq!(told[2], "lacrumont: empty.emf is damaged: offset 0: 0 bytes left, too few for a record");
+    assert_eq!(told[2], "lacrumont: empty.emf: this is an empty file, not an EMF file");
 
     let ended = folder.run("info --json damaged.emf lost.emf a.emf empty.emf none.emf").expect(1);
     let files = &Json::parse(&ended.out)["files"];
@@ -251,19 +251,21 @@ record 1 at offset 88: stretched DIB (EMR_STRETCHDIBITS, 0x51), Size 80
     assert_eq!(listed, [1, 0, 1, 0, 0]);
     let words = "damaged.emf is damaged: offset 168: the record's Size is 6; 8 is the least";
     assert_eq!(files[0]["error"].text(), words);
-    assert_eq!((&files[1]["bytes"], files[3]["bytes"].number()), (&Json::Null, 0.0));
+    assert_eq!((&files[1]["bytes"], &files[3]["bytes"]), (&Json::Null, &Json::Null));
     assert_eq!(files[4]["summary"]["other_records"].number(), 1.0);
 }
 
 #[test]
-fn exit_codes() {
-    let folder = Folder::new("exit_codes");
+fn exit_statuses() {
+    let folder = Folder::new("exit_statuses");
     folder.put("fine.emf", &emf(&[brush_record([0, 0, 2, 2])]));
     folder.put("refused.emf", &emf(&[with(&brush_record([0, 0, 2, 2]), 72, 0)]));
     folder.put("other.emf", &emf(&[bit_blit()]));
     folder.put("nothing.emf", &emf(&[]));
     for flag in ["", " --json"] {
-        folder.run(&format!("info fine.emf nothing.emf{flag}")).expect(0);
+        folder.run(&format!("info fine.emf{flag}")).expect(0);
+        folder.run(&format!("info fine.emf nothing.emf{flag}")).expect(3);
+        folder.run(&format!("info nothing.emf other.emf{flag}")).expect(2);
         folder.run(&format!("info fine.emf refused.emf fine.emf{flag}")).expect(2);
         folder.run(&format!("info other.emf fine.emf{flag}")).expect(2);
         folder.run(&format!("info refused.emf lost.emf other.emf{flag}")).expect(1);
@@ -288,9 +290,10 @@ fn bytes_behind_the_end_are_told() {
     let mut long = emf(&[brush_record([0, 0, 2, 2])]);
     long.extend([0; 5]);
     folder.put("long.emf", &long);
-    let ended = folder.run("info long.emf --json").expect(0);
-    assert_eq!(ended.err, "lacrumont: long.emf: 5 bytes behind the EOF record: not looked at\n");
-    assert_eq!(Json::parse(&ended.out)["files"][0]["bytes_behind_eof"].number(), 5.0);
+    let ended = folder.run("info long.emf --json").expect(3);
+    let warnings = Json::parse(&ended.out)["files"][0]["warnings"].items().to_vec();
+    assert_eq!(warnings.len(), 1);
+    assert_eq!(warnings[0].text(), "5 bytes behind the EOF record not looked at");
 }
 
 #[test]
@@ -315,8 +318,7 @@ fn the_same_facts_as_json() {
                 \"reason\": null, \"warnings\": []},\n{\"number\": 2, ";
     assert!(text.starts_with(head), "{text}");
     let tail = "], \"summary\": {\"bitmap_records\": 4, \"can_be_played\": 2, \"would_be_refused\": 1, \
-                \"not_played\": 1, \"other_records\": 0}, \"bytes_behind_eof\": 0, \"warnings\": [], \
-                \"error\": null}\n]}\n";
+                \"not_played\": 1, \"other_records\": 0}, \"warnings\": [], \"error\": null}\n]}\n";
     assert!(text.ends_with(tail), "{text}");
 
     let parsed = Json::parse(&text);

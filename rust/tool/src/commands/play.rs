@@ -190,7 +190,7 @@ impl Asked {
                     }
                 }
             }
-            for words in survey.warnings {
+            for words in survey.skipped.iter().chain(&survey.warnings) {
                 tally.warn(&format!("{}: {words}", path.display()));
             }
         }

@@ -4,10 +4,6 @@
 
 pub mod json;
 
-
-// Not every test file needs all of it.
-#![allow(dead_code)]
-
 use std::fs;
 use std::path::{Path, PathBuf};
 use std::process::{Command, Output};
