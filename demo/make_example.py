@@ -358,8 +358,11 @@ def write_emf(path, records):
 # Shallow to deep, blue to violet.
 SCALE = [(150, 214, 252), (96, 178, 250), (52, 138, 238), (40, 96, 214), (66, 62, 192), (104, 46, 176), (142, 36, 156)]
 LABELS = ["0.5", "1", "1.5", "2", "3", "4", "6"]
-PANEL = (24, 542, 300, 74)
-BAR = (38, 572, 273, 16)
+PANEL = (24, 474, 300, 142)
+BAR = (38, 504, 273, 16)
+# How each patch is drawn. Beside its name stands a sample that a record of the same kind draws: blend, mask, stretch.
+KINDS = ["ALPHA BLEND", "MASK BLIT", "STRETCHED DIB"]
+SAMPLES = [(38, 552 + 20 * n, 80, 14) for n in range(len(KINDS))]
 
 FONT = {
     "0": "01110 10001 10011 10101 11001 10001 01110",
@@ -371,10 +374,15 @@ FONT = {
     "6": "00110 01000 10000 11110 10001 10001 01110",
     ".": "00000 00000 00000 00000 00000 01100 01100",
     " ": "00000 00000 00000 00000 00000 00000 00000",
+    "A": "01110 10001 10001 11111 10001 10001 10001",
+    "B": "11110 10001 10001 11110 10001 10001 11110",
+    "C": "01110 10001 10000 10000 10000 10001 01110",
     "D": "11110 10001 10001 10001 10001 10001 11110",
     "E": "11111 10000 10000 11110 10000 10000 11111",
     "H": "10001 10001 10001 11111 10001 10001 10001",
     "I": "01110 00100 00100 00100 00100 00100 01110",
+    "K": "10001 10010 10100 11000 10100 10010 10001",
+    "L": "10000 10000 10000 10000 10000 10000 11111",
     "M": "10001 11011 10101 10101 10001 10001 10001",
     "N": "10001 11001 10101 10011 10001 10001 10001",
     "O": "01110 10001 10001 10001 10001 10001 01110",
@@ -429,7 +437,7 @@ def nearness(rows, x, y):
 
 
 def blend_file(path, smooth, drift):
-    """Bands over the left massif with thin lines between them, then the legend's bright panel."""
+    """Bands over the left massif with thin lines between them, then the legend's bright panel and its sample of a blend."""
     area = (180, 84, 384, 380)
     rows = levels(smooth, drift, area, 0.42, 0.94, len(SCALE))
     stored = []
@@ -447,11 +455,14 @@ def blend_file(path, smooth, drift):
         stored.append(bytes(out))
     bands = alpha_blend(area, dib(area[2], area[3], 32, [], stored), area[2:], 255, 1)
     panel = alpha_blend(PANEL, dib(1, 1, 24, [], [b"\xff\xff\xff"]), (1, 1), 205, 0)
-    write_emf(path, [bands, panel])
+    # The bands' own colours at their own alpha.
+    colours = b"".join(bytes(int(v * 0.56 + 0.5) for v in (blue, green, red, 255)) for red, green, blue in SCALE)
+    sample = alpha_blend(SAMPLES[0], dib(len(SCALE), 1, 32, [], [colours]), (len(SCALE), 1), 255, 1)
+    write_emf(path, [bands, panel, sample])
 
 
 def mask_file(path, smooth, drift):
-    """A hatched region on the lower ridge, then the legend's words in the brush's colour."""
+    """A hatched region on the lower ridge, then the legend's words in the brush's colour and its sample of a mask."""
     area = (556, 398, 344, 206)
     rows = levels(smooth, drift, area, 0.31, 0.62, 1)
     mask, source = [], []
@@ -471,8 +482,19 @@ def mask_file(path, smooth, drift):
     for n, label in enumerate(LABELS):
         each = BAR[2] // len(LABELS)
         put_words(dots, label, BAR[0] - left + n * each + (each - len(label) * 12 + 2 + 5 * label.count(".")) // 2, 52)
+    for kind, (x, y, wide, _) in zip(KINDS, SAMPLES):
+        put_words(dots, kind, x - left + wide + 16, y - top)
     words = dib(width, height, 1, both, [packed(line, 1) for line in dots])
-    write_emf(path, [hatched, mask_blit(PANEL, 0xF0, 0xAA, [], words)])
+    write_emf(path, [hatched, mask_blit(PANEL, 0xF0, 0xAA, [], words), mask_sample(colours, both)])
+
+
+def mask_sample(colours, both):
+    """The hatch in a frame, from shallow to deep."""
+    _, _, width, height = SAMPLES[1]
+    source = [packed([x * 16 // width for x in range(width)], 4)] * height
+    frame = lambda x, y: x in (0, width - 1) or y in (0, height - 1)
+    hatch = [packed([int(frame(x, y) or (x + y) % 10 < 2) for x in range(width)], 1) for y in range(height)]
+    return mask_blit(SAMPLES[1], 0xCC, 0xAA, dib(width, height, 4, colours, source), dib(width, height, 1, both, hatch))
 
 
 def put_words(dots, text, x, y):
@@ -487,7 +509,7 @@ def put_words(dots, text, x, y):
 
 
 def stretch_file(path, smooth, drift):
-    """Depth classes in squares over the right massif, then the legend's scale."""
+    """Depth classes in squares over the right massif, then the legend's scale and its sample of stretched squares."""
     cell, columns, rows = 10, 32, 32
     left, top = 574, 46
     # Ones from the left in each channel: the land shows through, in steps that grow with the depth.
@@ -499,8 +521,10 @@ def stretch_file(path, smooth, drift):
     middles = [line[cell // 2 :: cell] for line in fine[cell // 2 :: cell]]
     classes = [bytes(min(max(int(level + 1), 0), len(colours) - 1) for level in line) for line in middles]
     squares = stretched_dib(area, 0x008800C6, dib(columns, rows, 8, colours, classes), (columns, rows))
-    scale = dib(len(SCALE), 1, 8, SCALE, [bytes(range(len(SCALE)))])
-    write_emf(path, [squares, stretched_dib(BAR, 0x00CC0020, scale, (len(SCALE), 1))])
+    scale = stretched_dib(BAR, 0x00CC0020, dib(len(SCALE), 1, 8, SCALE, [bytes(range(len(SCALE)))]), (len(SCALE), 1))
+    shown = dib(len(colours) - 1, 1, 8, colours, [bytes(range(1, len(colours)))])
+    sample = stretched_dib(SAMPLES[2], 0x008800C6, shown, (len(colours) - 1, 1))
+    write_emf(path, [squares, scale, sample])
 
 
 def main():

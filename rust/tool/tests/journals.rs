@@ -14,26 +14,28 @@ fn prepared(name: &str) -> Folder {
     folder.put_sheet("sheet.png", &noisy_sheet(40, 30, true));
     folder.put_sheet("other.png", &noisy_sheet(30, 40, true));
     folder.put("a.emf", &emf(&[blend_record([3, 4, 20, 10], 0x8040_2010)]));
-    folder.put("b.emf", &emf(&[mask_record([35, 1, 33, 2]), brush_record([50, 50, 5, 5])]));
+    folder.put("b.emf", &emf(&[mask_record([35, 1, 33, 2]), brush_record([30, 28, 5, 5])]));
     folder
 }
 
 #[test]
 fn a_journal_is_listed() {
     let folder = prepared("a_journal_is_listed");
-    folder.run("play sheet.png a.emf b.emf -o out.png --journal j").expect(0);
+    folder.put("outside.emf", &emf(&[brush_record([50, 50, 5, 5])]));
+    folder.run("play sheet.png a.emf b.emf outside.emf -o out.png --journal j").expect(3);
     let before = folder.all();
     let ended = folder.run("journal out.png --journal j").expect(0);
     let lines = [
         "play 1: alpha blend (EMR_ALPHABLEND, 0x72), 200 pixels, columns 3 to 22, rows 4 to 13, 201 records",
         "play 2: mask blit (EMR_MASKBLT, 0x4E), 10 pixels, columns 35 to 39, rows 1 to 2, 11 records",
-        "play 3: stretched DIB (EMR_STRETCHDIBITS, 0x51), 0 pixels, nothing drawn, 1 record",
-        "3 plays; 213 records in use, 19,999,787 free of 20,000,000",
+        "play 3: stretched DIB (EMR_STRETCHDIBITS, 0x51), 10 pixels, columns 30 to 34, rows 28 to 29, 11 records",
+        "play 4: stretched DIB (EMR_STRETCHDIBITS, 0x51), 0 pixels, nothing drawn, 1 record",
+        "4 plays; 224 records in use, 19,999,776 free of 20,000,000",
     ];
     assert_eq!(ended.out, lines.join("\n") + "\n");
     assert_eq!(ended.err, "");
     folder.run("journal sheet.png --journal j").fails("j: the journal belongs to another sheet");
-    folder.run("journal out.png --journal a.emf").fails("a.emf: this is no journal");
+    folder.run("journal out.png --journal a.emf").fails("a.emf: this is an EMF file, not a journal");
     assert_eq!(folder.all(), before);
     folder.run("undo out.png --journal j -o undone.png --all").expect(0);
     let ended = folder.run("journal undone.png --journal j").expect(0);
@@ -62,7 +64,7 @@ fn a_journal_that_is_there_is_kept() {
         let ended = folder.run(&format!("play sheet.png b.emf -o new{number}.png --journal j --new-journal")).expect(0);
         let kept = format!("j.{}", number + 1);
         assert_eq!(ended.err, format!("lacrumont: the journal that was there is kept as {kept}\n"));
-        assert!(ended.out.ends_with("journal j holds 2 plays\n"));
+        assert!(ended.out.contains("\njournal j holds 2 plays\n"), "{ended:?}");
         assert_eq!(&folder.get(&kept), old);
     }
     // One that fits is kept as well, and is of use again later.

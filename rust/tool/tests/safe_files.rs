@@ -101,8 +101,7 @@ fn killed_runs_lose_nothing() {
         after += u64::from(now == done);
         held = now;
     }
-    println!("length {length}");
-    println!("{kills} kills: {before} before, {after} after, of which {finished} between both names");
+    println!("{kills} kills in runs of {length} µs: {before} before, {after} after, {finished} between both names");
     assert!(kills >= 60 && before > 0 && after > 0, "{kills} kills: {before} before, {after} after");
     folder.run(&format!("{undo} --all")).expect(0);
     assert_eq!(folder.get("sheet.bmp"), first);
