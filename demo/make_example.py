@@ -523,7 +523,7 @@ def stretch_file(path, smooth, drift):
     squares = stretched_dib(area, 0x008800C6, dib(columns, rows, 8, colours, classes), (columns, rows))
     scale = stretched_dib(BAR, 0x00CC0020, dib(len(SCALE), 1, 8, SCALE, [bytes(range(len(SCALE)))]), (len(SCALE), 1))
     shown = dib(len(colours) - 1, 1, 8, colours, [bytes(range(1, len(colours)))])
-    sample = stretched_dib(SAMPLES[2], 0x008800C6, shown, (len(colours) - 1, 1))
+    sample = stretched_dib(SAMPLES[2], 0x00CC0020, shown, (len(colours) - 1, 1))
     write_emf(path, [squares, scale, sample])
 
 

@@ -114,7 +114,8 @@ mod tests {
         for _ in 0..4_000 {
             let bounds = [number(16) - 4, number(12) - 4, number(24) - 4, number(24) - 4];
             let clip = Clip { left: number(9) - 3, top: number(7) - 3, right: number(20), bottom: number(20) };
-            let (x, y, cx, cy) = (number(40) - 15, number(40) - 15, number(30) - 10 | 1, number(30) - 10 | 1);
+            let (x, y) = (number(40) - 15, number(40) - 15);
+            let (cx, cy) = ((number(30) - 10) | 1, (number(30) - 10) | 1);
             let mut record = Record::new(STRETCHDIBITS, [x, y, cx, cy], operation::rop(0xF0)).bytes();
             for (place, value) in bounds.iter().enumerate() {
                 record[8 + 4 * place..12 + 4 * place].copy_from_slice(&value.to_le_bytes());

@@ -381,7 +381,7 @@ fn names_that_json_cannot_write() {
     let names = [&b"\xFF\xFEmap.emf"[..], b"a \"b\"\\\n.emf", "höhe.emf".as_bytes()].map(OsStr::from_bytes);
     let record = Record::new(STRETCHDIBITS, [0, 0, 2, 2], rop(0xF0)).bytes();
     for name in names {
-        std::fs::write(folder.path(".").join(name), emf(&[record.clone()])).unwrap();
+        std::fs::write(folder.path(".").join(name), emf(std::slice::from_ref(&record))).unwrap();
     }
     let mut tool = Command::new(env!("CARGO_BIN_EXE_lacrumont"));
     let ended = tool.args(["info", "--json"]).args(names).current_dir(folder.path(".")).output().unwrap();
