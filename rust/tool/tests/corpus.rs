@@ -5,6 +5,7 @@ mod common;
 use std::fs;
 use std::path::Path;
 
+use common::json::Json;
 use common::*;
 
 /// A file of the corpus: its exit status, what became of its records (played, drew nothing, refused, skipped), and the
@@ -225,9 +226,17 @@ fn info_tells_it_before() {
         }
     }
     let out = folder.run("info inverted-bounds.emf").expect(3).out;
-    let warning =
-        "  warning: it draws nothing on any sheet: its Bounds 0, 0, -1, -1 are inverted, so they meet nothing\n";
-    assert_eq!(out.matches(warning).count(), 2);
+    let told =
+        "  warning: it draws nothing on any sheet: its Bounds 0, 0, -1, -1 are inverted, so they meet nothing\n  \
+                status 0: accepted, but it draws nothing\n";
+    assert_eq!(out.matches(told).count(), 2);
+    let counts = "2 bitmap records: 0 can be played, 2 would draw nothing, 0 would be refused, 0 of a type that is not";
+    assert!(out.lines().last().unwrap().starts_with(counts), "{out}");
+    let json = Json::parse(&folder.run("info inverted-bounds.emf --json").expect(3).out);
+    let (record, summary) = (&json["files"][0]["records"][1], &json["files"][0]["summary"]);
+    assert_eq!((record["verdict"].text(), record["status"].number()), ("would draw nothing", 0.0));
+    assert_eq!(record["reason"].text(), "its Bounds 0, 0, -1, -1 are inverted, so they meet nothing");
+    assert_eq!(summary["would_draw_nothing"].number(), 2.0);
     assert_eq!(folder.names(), before);
 }
 

@@ -76,7 +76,7 @@ record 3 at offset 436: stretched DIB (EMR_STRETCHDIBITS, 0x51), Size 80
   no source picture
   operation: raster operation 0xF0 (PATCOPY); uses the brush
   status 0: can be played
-3 bitmap records: 3 can be played, 0 would be refused, 0 of a type that is not played; 1 other record
+3 bitmap records: 3 can be played, 0 would draw nothing, 0 would be refused, 0 of a type that is not played; 1 other record
 ";
     assert_eq!(ended.out, expected);
     assert_eq!(ended.err, "");
@@ -120,7 +120,7 @@ record 6 at offset 796: stretched DIB (EMR_STRETCHDIBITS, 0x51), Size 80
 ";
     assert!(ended.out.starts_with(expected), "{}", ended.out);
     let summary =
-        "6 bitmap records: 1 can be played, 0 would be refused, 5 of a type that is not played; 0 other records";
+        "6 bitmap records: 1 can be played, 0 would draw nothing, 0 would be refused, 5 of a type that is not played; 0 other records";
     assert_eq!(ended.out.lines().last(), Some(summary));
 }
 
@@ -167,7 +167,7 @@ fn refused_records_are_told_with_the_reason() {
         "  operation: blend operation 1, constant alpha 255, alpha format 1",
         "  XformSrc 2, 0, 0, 1, 0, 0",
         "  source 2 by 1 at 0, 0 of a picture 2 by 1, 24 bits, BI_RGB, 40-byte header, UsageSrc 1 (DIB_PAL_COLORS)",
-        "8 bitmap records: 1 can be played, 7 would be refused, 0 of a type that is not played; 0 other records",
+        "8 bitmap records: 1 can be played, 0 would draw nothing, 7 would be refused, 0 of a type that is not played; 0 other records",
     ];
     for line in lines {
         assert!(ended.out.lines().any(|one| one == line), "{line} is not in {}", ended.out);
@@ -201,7 +201,7 @@ record 4 at offset 168: stretched DIB (EMR_STRETCHDIBITS, 0x51), Size 128
   source 2 by 1 at 0, 0 of a picture whose header cannot be read
   operation: raster operation 0xCC (SRCCOPY)
   status 6: offBmiSrc 4294967280 and cbBmiSrc 40 end at 4294967320, past Size 128
-4 bitmap records: 0 can be played, 3 would be refused, 1 of a type that is not played; 0 other records
+4 bitmap records: 0 can be played, 0 would draw nothing, 3 would be refused, 1 of a type that is not played; 0 other records
 ";
     assert_eq!(folder.run("info a.emf").expect(2).out, expected);
     let records = &Json::parse(&folder.run("info a.emf --json").expect(2).out)["files"][0]["records"];
@@ -228,7 +228,9 @@ record 1 at offset 88: stretched DIB (EMR_STRETCHDIBITS, 0x51), Size 80
   operation: raster operation 0xF0 (PATCOPY); uses the brush
   status 0: can be played
 ";
-    let counts = |playable| format!("{playable} can be played, 0 would be refused, 0 of a type that is not played");
+    let counts = |playable| {
+        format!("{playable} can be played, 0 would draw nothing, 0 would be refused, 0 of a type that is not played")
+    };
     let (one, no) = (counts(1), counts(0));
     let expected = format!(
         "damaged.emf: 332 bytes\n{block}1 bitmap record before the damage: {one}; 0 other records\n\n\
@@ -277,7 +279,7 @@ fn exit_statuses() {
     for line in [
         "  1  an error of files or use",
         "  2  a bitmap record would be refused, or is of a type that is not played",
-        "  3  there are warnings",
+        "  3  there are warnings, or a record would draw nothing",
         "  0  every bitmap record can be played",
     ] {
         assert!(help.lines().any(|one| one == line), "{help}");
@@ -315,10 +317,10 @@ fn the_same_facts_as_json() {
                 \"mask_corner\": null, \"mask\": null, \
                 \"operation\": {\"kind\": \"blend\", \"operation\": 0, \"flags\": 119, \"constant_alpha\": 255, \
                 \"format\": 1}, \"uses_brush\": false, \"verdict\": \"can be played\", \"status\": 0, \
-                \"reason\": null, \"warnings\": []},\n{\"number\": 2, ";
+                \"reason\": null},\n{\"number\": 2, ";
     assert!(text.starts_with(head), "{text}");
-    let tail = "], \"summary\": {\"bitmap_records\": 4, \"can_be_played\": 2, \"would_be_refused\": 1, \
-                \"not_played\": 1, \"other_records\": 0}, \"warnings\": [], \"error\": null}\n]}\n";
+    let tail = "], \"summary\": {\"bitmap_records\": 4, \"can_be_played\": 2, \"would_draw_nothing\": 0, \
+                \"would_be_refused\": 1, \"not_played\": 1, \"other_records\": 0}, \"warnings\": [], \"error\": null}\n]}\n";
     assert!(text.ends_with(tail), "{text}");
 
     let parsed = Json::parse(&text);

@@ -28,16 +28,16 @@ source rectangle, pictures, operation, status. A record that would be refused is
 all eight bitmap types: EMR_BITBLT, EMR_STRETCHBLT, EMR_MASKBLT, EMR_PLGBLT, EMR_SETDIBITSTODEVICE, EMR_STRETCHDIBITS,
 EMR_ALPHABLEND and EMR_TRANSPARENTBLT. Other records are counted at the file's end.
 
-What a file sets and play does not honour (mappings, clips, brushes, other drawing) is told as warnings, and so is a
-record that would draw nothing on any sheet. `play --dry-run` tells the same for a sheet. A file that cannot be read or
-is damaged is told on standard error; the others are still listed.
+What a file sets and play does not honour (mappings, clips, brushes, other drawing) is listed as warnings, and so is a
+record that would draw nothing on any sheet. `play --dry-run` tells the same for one sheet. A file that cannot be read
+or is damaged is told on standard error; the others are still listed.
 
   --json   one JSON document with the same facts: an object whose \"files\" is an array; what is absent is null
 
 Exit status, the first that applies:
   1  an error of files or use
   2  a bitmap record would be refused, or is of a type that is not played
-  3  there are warnings
+  3  there are warnings, or a record would draw nothing
   0  every bitmap record can be played
 ";
 
@@ -47,14 +47,15 @@ struct Entry {
     number: usize,
     offset: usize,
     facts: Facts,
-    /// The library's judgement; 0 where the record can be played.
+    /// The library's judgement; 0 where it accepts the record.
     status: u32,
-    warnings: Vec<String>,
     verdict: Verdict,
 }
 
 enum Verdict {
     Playable,
+    /// Accepted, but no pixel of any sheet is reached.
+    Nothing(String),
     Refused(String),
     /// Of a type that is not played.
     NotPlayed,
@@ -67,13 +68,12 @@ const PLAYED_TYPES: &str = "this tool plays EMR_ALPHABLEND, EMR_MASKBLT and EMR_
 #[derive(Default)]
 struct Summary {
     playable: u64,
+    nothing: u64,
     refused: u64,
     not_played: u64,
     /// Records without a bitmap, but for the header and EOF.
     others: u64,
-    /// Warnings of all its records together.
-    record_warnings: u64,
-    /// Warnings of the file itself.
+    /// What in the file is not honoured.
     warnings: Vec<String>,
     error: Option<String>,
 }
@@ -145,36 +145,35 @@ fn list(path: &Path, listing: &mut dyn Listing, out: &mut Out) -> u8 {
 fn examine(listed: &Listed) -> Entry {
     let record = &listed.record;
     let status = library::read(record.bytes, Which::Source).err().unwrap_or(OK);
-    let (verdict, warnings) = match listed.fate {
+    let verdict = match listed.fate {
         Fate::Refused(status) => {
             let general = || words::status(status).to_string();
-            (Verdict::Refused(reasons::reason(record.bytes, status).unwrap_or_else(general)), Vec::new())
+            Verdict::Refused(reasons::reason(record.bytes, status).unwrap_or_else(general))
         }
-        Fate::Skipped => (Verdict::NotPlayed, Vec::new()),
-        Fate::Played | Fate::LeftOut => (Verdict::Playable, nowhere(listed)),
+        Fate::Skipped => Verdict::NotPlayed,
+        Fate::Played | Fate::LeftOut => nowhere(listed).map_or(Verdict::Playable, Verdict::Nothing),
     };
-    Entry { number: listed.number, offset: record.offset, facts: Facts::read(record.bytes), status, warnings, verdict }
+    Entry { number: listed.number, offset: record.offset, facts: Facts::read(record.bytes), status, verdict }
 }
 
-/// That a record draws nothing even on the largest sheet.
-fn nowhere(listed: &Listed) -> Vec<String> {
+/// Why a record draws nothing even on the largest sheet.
+fn nowhere(listed: &Listed) -> Option<String> {
     let largest = Area::of([0, 0, MOST_SIDE.into(), MOST_SIDE.into()]);
-    let why = listed.reach(largest).and_then(Result::err);
-    why.into_iter().map(|why| format!("it draws nothing on any sheet: {why}")).collect()
+    listed.reach(largest)?.err()
 }
 
 impl Summary {
     fn bitmaps(&self) -> u64 {
-        self.playable + self.refused + self.not_played
+        self.playable + self.nothing + self.refused + self.not_played
     }
 
     fn add(&mut self, entry: &Entry) {
         match entry.verdict {
             Verdict::Playable => self.playable += 1,
+            Verdict::Nothing(_) => self.nothing += 1,
             Verdict::Refused(_) => self.refused += 1,
             Verdict::NotPlayed => self.not_played += 1,
         }
-        self.record_warnings += entry.warnings.len() as u64;
     }
 
     fn code(&self) -> u8 {
@@ -182,7 +181,7 @@ impl Summary {
             ERROR
         } else if self.refused + self.not_played > 0 {
             REFUSED
-        } else if self.record_warnings > 0 || !self.warnings.is_empty() {
+        } else if self.nothing > 0 || !self.warnings.is_empty() {
             WARNED
         } else {
             FINE
@@ -201,7 +200,7 @@ mod tests {
         }
         let warned = Summary { warnings: vec!["x".to_string()], playable: 1, ..Summary::default() };
         assert_eq!(warned.code(), WARNED);
-        assert_eq!(Summary { record_warnings: 1, ..Summary::default() }.code(), WARNED);
+        assert_eq!(Summary { nothing: 1, ..Summary::default() }.code(), WARNED);
         assert_eq!(Summary { refused: 1, ..warned }.code(), REFUSED);
         let damaged = Summary { not_played: 1, error: Some("x".to_string()), ..Summary::default() };
         assert_eq!(damaged.code(), ERROR);

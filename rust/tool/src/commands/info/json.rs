@@ -39,6 +39,7 @@ impl Listing for Json {
         let counts = object([
             ("bitmap_records", number(summary.bitmaps())),
             ("can_be_played", number(summary.playable)),
+            ("would_draw_nothing", number(summary.nothing)),
             ("would_be_refused", number(summary.refused)),
             ("not_played", number(summary.not_played)),
             ("other_records", number(summary.others)),
@@ -80,6 +81,7 @@ fn record(entry: &Entry) -> Value {
     let facts = &entry.facts;
     let (verdict, reason) = match &entry.verdict {
         Verdict::Playable => ("can be played", None),
+        Verdict::Nothing(why) => ("would draw nothing", Some(&why[..])),
         Verdict::Refused(reason) => ("would be refused", Some(&reason[..])),
         Verdict::NotPlayed => ("not played", Some(PLAYED_TYPES)),
     };
@@ -101,7 +103,6 @@ fn record(entry: &Entry) -> Value {
         ("verdict", verdict.into()),
         ("status", entry.status.into()),
         ("reason", reason.into()),
-        ("warnings", entry.warnings[..].into()),
     ])
 }
 

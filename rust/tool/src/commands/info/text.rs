@@ -34,12 +34,13 @@ impl Listing for Text {
         for line in lines(facts) {
             out.line(&format!("  {line}"));
         }
-        for warning in &entry.warnings {
-            out.line(&format!("  warning: {warning}"));
-        }
         let status = entry.status;
+        if let Verdict::Nothing(why) = &entry.verdict {
+            out.line(&format!("  warning: it draws nothing on any sheet: {why}"));
+        }
         out.line(&match &entry.verdict {
             Verdict::Playable => format!("  {}", words::numbered(status)),
+            Verdict::Nothing(_) => format!("  status {status}: accepted, but it draws nothing"),
             Verdict::Refused(reason) => format!("  status {status}: {reason}"),
             Verdict::NotPlayed => format!("  not played: {PLAYED_TYPES}"),
         });
@@ -49,15 +50,15 @@ impl Listing for Text {
         for warning in &summary.warnings {
             out.line(&format!("warning: {warning}"));
         }
-        let Summary { playable, refused, not_played, .. } = summary;
+        let Summary { playable, nothing, refused, not_played, .. } = summary;
         let bitmaps = words::things(summary.bitmaps(), "bitmap record");
         let others = words::things(summary.others, "other record");
         let damaged = if summary.error.is_some() { " before the damage" } else { "" };
-        let counts = [playable, refused, not_played].map(|number| words::count(*number));
-        let [playable, refused, not_played] = counts;
+        let counts = [playable, nothing, refused, not_played].map(|number| words::count(*number));
+        let [playable, nothing, refused, not_played] = counts;
         out.line(&format!(
-            "{bitmaps}{damaged}: {playable} can be played, {refused} would be refused, {not_played} of a type that is \
-             not played; {others}"
+            "{bitmaps}{damaged}: {playable} can be played, {nothing} would draw nothing, {refused} would be refused, \
+             {not_played} of a type that is not played; {others}"
         ));
     }
 
