@@ -123,6 +123,17 @@ const CASES: &[Case] = &[
     Case("palette-usage", 2, [0, 0, 1, 0], &["refused, status 7: "]),
     Case("scaled-source", 2, [0, 0, 1, 0], &["refused, status 7: "]),
     Case("mask-without-a-mask", 2, [0, 0, 1, 0], &["refused, status 13: "]),
+    Case(
+        "mixed",
+        2,
+        [1, 1, 1, 1],
+        &[
+            "record 3 at offset 372: stretched DIB (EMR_STRETCHDIBITS, 0x51): refused, status 8: biCompression 1 (RLE8)",
+            "1 record of type EMR_BITBLT (0x4C) not played: record 4",
+            "offset 100: EMR_SETWINDOWEXTEX, in force at records 1, 2: a window of 400 by 300 on a viewport of 1 by 1",
+            "record 2 at offset 244: stretched DIB (EMR_STRETCHDIBITS, 0x51): accepted, but it draws nothing",
+        ],
+    ),
 ];
 
 fn corpus() -> &'static Path {

@@ -199,6 +199,15 @@ FILES = {
     "palette-usage": [stretch(HERE, usage=1)],
     "scaled-source": [blend(HERE, transform=(2.0, 0.0, 0.0, 2.0, 0.0, 0.0))],
     "mask-without-a-mask": [mask(HERE, None)],
+    # Every fate at once: played, drew nothing, refused, skipped.
+    "mixed": [
+        map_mode(8),
+        window(400, 300),
+        stretch(HERE),
+        stretch(HERE, bounds=INVERTED),
+        stretch(HERE, dib(2, 1, 8, bytes([2, 0, 0, 1]), 1, (0, 0xFFFFFF))),
+        bitblt((0, 0, 2, 1)),
+    ],
 }
 
 
