@@ -22,7 +22,7 @@ pub struct Header {
     pub interlaced: bool,
 }
 
-/// A chunk that is kept as it is.
+/// A chunk that the pixels do not depend on, as it is.
 #[derive(Clone, Debug, PartialEq, Eq)]
 pub struct Chunk {
     pub name: [u8; 4],
@@ -58,7 +58,7 @@ impl<'a> Reader<'a> {
         Header { width, height, bits, interlaced: passes > 1 }
     }
 
-    /// Decodes all pixels and gives the chunks that are kept, in their order. `tell` hears how many rows are done of how many.
+    /// Decodes all pixels and gives the chunks that they do not depend on, in their order. `tell` hears how many rows are done of how many.
     pub fn read(self, pixels: &mut [u32], tell: &mut dyn FnMut(usize, usize)) -> Result<Vec<Chunk>, String> {
         let mut words = Words::new();
         let (to, length) = (pixels.as_mut_ptr().cast::<u8>(), std::mem::size_of_val(pixels));

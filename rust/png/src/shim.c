@@ -74,13 +74,12 @@ static void on_read(png_structp png, png_bytep to, size_t length) {
     reader->left -= length;
 }
 
-/* Every fault of the file is an error, and only the chunks that are kept are stored, as they are and not unpacked. */
+/* Every fault of the file is an error. Chunks that the pixels do not depend on are stored as they are and not unpacked; a critical one
+ * that is not known is an error. */
 static void set_rules(png_structp png) {
-    static const png_byte kept[] = "gAMA\0cHRM\0sRGB\0iCCP\0pHYs\0tEXt\0zTXt\0iTXt";
     png_set_crc_action(png, PNG_CRC_ERROR_QUIT, PNG_CRC_ERROR_QUIT);
     png_set_benign_errors(png, 0);
-    png_set_keep_unknown_chunks(png, PNG_HANDLE_CHUNK_NEVER, NULL, -1);
-    png_set_keep_unknown_chunks(png, PNG_HANDLE_CHUNK_ALWAYS, kept, sizeof kept / 5);
+    png_set_keep_unknown_chunks(png, PNG_HANDLE_CHUNK_IF_SAFE, NULL, -1);
     png_set_chunk_cache_max(png, MOST_CHUNKS);
     png_set_chunk_malloc_max(png, MOST_CHUNK_BYTES);
     /* The header of a larger picture is told; it is not decoded. */

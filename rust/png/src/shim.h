@@ -18,7 +18,7 @@ struct png_shim_header {
     uint32_t passes; /* over all rows: 7 where it is interlaced, else 1 */
 };
 
-/* A chunk that is kept as it is. Its data belong to the reader. */
+/* A chunk that the pixels do not depend on, as it is. Its data belong to the reader. */
 struct png_shim_chunk {
     uint8_t name[4];
     uint32_t behind; /* 1 where it stands behind the image data */
@@ -35,7 +35,7 @@ struct png_shim_reader *png_shim_open(const uint8_t *bytes, size_t length, struc
 int png_shim_read_rows(struct png_shim_reader *reader, uint8_t *pixels, size_t length, uint32_t rows, char *words);
 /* Reads the rest of the file, once all rows are decoded. */
 int png_shim_read_end(struct png_shim_reader *reader, uint8_t *pixels, size_t length, char *words);
-/* The kept chunk of this number, in the file's order: 1 where there is one. */
+/* The chunk of this number, in the file's order: 1 where there is one. */
 int png_shim_chunk(const struct png_shim_reader *reader, size_t number, struct png_shim_chunk *chunk);
 void png_shim_close(struct png_shim_reader *reader);
 

@@ -33,7 +33,7 @@ fn bombs() {
     let sides = file(&[(b"IHDR", &large), (b"IDAT", &zeros), (b"IEND", b"")]);
     let before = peak();
     let kept = Reader::open(&texts).unwrap().read(&mut [0], &mut |_, _| {}).unwrap();
-    assert_eq!(kept.iter().map(|chunk| chunk.name).collect::<Vec<_>>(), [*b"iCCP", *b"zTXt", *b"iTXt"]);
+    assert_eq!(kept.iter().map(|chunk| chunk.name).collect::<Vec<_>>(), [*b"iCCP", *b"zTXt", *b"iTXt", *b"sPLT"]);
     assert!(Reader::open(&rows).unwrap().read(&mut [0], &mut |_, _| {}).is_err());
     assert!(Reader::open(&sides).unwrap().read(&mut [0], &mut |_, _| {}).is_err());
     let rise = peak() - before;

@@ -15,6 +15,10 @@ const BI_BITFIELDS: u32 = 3;
 const MASKS: [u32; 4] = [0x00FF_0000, 0x0000_FF00, 0x0000_00FF, 0xFF00_0000];
 /// "sRGB" as the header has it.
 const SRGB: u32 = 0x7352_4742;
+/// Endpoints and gamma stand in the header; "LINK" and "MBED": a profile stands in another file, or in this one.
+const CALIBRATED: u32 = 0;
+const LINKED: u32 = 0x4C49_4E4B;
+const EMBEDDED: u32 = 0x4D42_4544;
 
 pub fn read(bytes: &[u8]) -> Result<Sheet, String> {
     if !bytes.starts_with(b"BM") {
@@ -63,8 +67,19 @@ pub fn read(bytes: &[u8]) -> Result<Sheet, String> {
             pixels.push(pixel(alpha, red, green, blue));
         }
     }
-    let extras = Extras { resolution: Resolution::new(header(24)?, header(28)?), chunks: Vec::new() };
+    let dropped = if length >= V4_HEADER { colour_space(header(56)?) } else { None };
+    let resolution = Resolution::new(header(24)?, header(28)?);
+    let extras = Extras { resolution, dropped: dropped.into_iter().collect(), ..Extras::default() };
     Ok(Sheet { surface: Surface { width: width as u32, height: rows, pixels }, deep: bits == 32, extras })
+}
+
+/// What the header says of the colours, where it is more than that they are usual ones. No file that is written has it.
+fn colour_space(number: u32) -> Option<String> {
+    match number {
+        CALIBRATED => Some("the calibrated colours of the header".to_string()),
+        LINKED | EMBEDDED => Some("the colour profile".to_string()),
+        _ => None,
+    }
 }
 
 /// Which byte of a pixel each mask stands for; only an alpha mask may be 0.

@@ -1,5 +1,5 @@
-//! PNG sheets, by libpng: all forms of up to 8 bits a channel are read; RGBA is written. What a file says of its colours,
-//! its resolution and in texts is kept.
+//! PNG sheets, by libpng: all forms of up to 8 bits a channel are read; RGBA is written. What a file says beside its
+//! pixels is kept where it stays true.
 
 use png_shim::{Chunk, Reader};
 
@@ -11,6 +11,10 @@ use crate::sheet::{check_sides, Extras, Resolution, Sheet};
 const SIGNATURE: &[u8; 8] = b"\x89PNG\r\n\x1a\n";
 /// pHYs counts in metres; 0 there gives the pixels' shape only.
 const METRE: u8 = 1;
+/// How the colours are meant. This stays true: plays do not look at it.
+const COLOURS: [&[u8; 4]; 5] = [b"gAMA", b"cHRM", b"sRGB", b"iCCP", b"cICP"];
+/// When the old file was changed, how it stored its pixels, and what may be shown behind them: none of it is missed.
+const OLD_FORM: [&[u8; 4]; 5] = [b"tIME", b"sBIT", b"hIST", b"sPLT", b"bKGD"];
 
 pub fn read(bytes: &[u8], work: &str, progress: &mut Progress) -> Result<Sheet, String> {
     if !bytes.starts_with(SIGNATURE) {
@@ -46,6 +50,7 @@ fn single(name: &[u8; 4]) -> Option<Option<usize>> {
     match name {
         b"gAMA" => Some(Some(4)),
         b"cHRM" => Some(Some(32)),
+        b"cICP" => Some(Some(4)),
         b"sRGB" => Some(Some(1)),
         b"pHYs" => Some(Some(9)),
         b"iCCP" => Some(None),
@@ -71,13 +76,21 @@ fn check_chunks(chunks: &[Chunk]) -> Result<(), String> {
     Ok(())
 }
 
+/// Whether a chunk is carried on. PNG calls those safe to copy where pixels have changed whose last letter is small.
+fn is_carried(chunk: &Chunk) -> bool {
+    COLOURS.contains(&&chunk.name) || chunk.name[3].is_ascii_lowercase()
+}
+
 /// Takes the resolution out of the chunks, if it is one that BMP files can say, too.
-fn extras(mut chunks: Vec<Chunk>) -> Extras {
+fn extras(chunks: Vec<Chunk>) -> Extras {
     let resolution = chunks.iter().find_map(resolution);
+    let (mut carried, others): (Vec<Chunk>, Vec<Chunk>) = chunks.into_iter().partition(is_carried);
     if resolution.is_some() {
-        chunks.retain(|chunk| chunk.name != *b"pHYs");
+        carried.retain(|chunk| chunk.name != *b"pHYs");
     }
-    Extras { resolution, chunks }
+    let missed = others.iter().filter(|chunk| !OLD_FORM.contains(&&chunk.name));
+    let dropped = missed.map(|chunk| chunk_named(&chunk.name)).collect();
+    Extras { resolution, chunks: carried, dropped }
 }
 
 fn resolution(chunk: &Chunk) -> Option<Resolution> {
@@ -94,15 +107,23 @@ fn resolution_chunk(resolution: Resolution) -> Chunk {
 }
 
 /// What a kept chunk says, in words.
-pub fn meaning(name: &[u8; 4]) -> &'static str {
-    match name {
-        b"gAMA" => "the gamma (gAMA)",
-        b"cHRM" => "the primaries (cHRM)",
-        b"sRGB" => "the sRGB mark (sRGB)",
-        b"iCCP" => "the colour profile (iCCP)",
-        b"pHYs" => "the pixels' shape (pHYs)",
-        _ => "texts (tEXt, zTXt, iTXt)",
-    }
+pub fn meaning(name: &[u8; 4]) -> String {
+    let meaning = match name {
+        b"gAMA" => "the gamma",
+        b"cHRM" => "the primaries",
+        b"sRGB" => "the sRGB mark",
+        b"iCCP" => "the colour profile",
+        b"cICP" => "the colours' code points",
+        b"pHYs" => "the pixels' shape",
+        b"eXIf" => "the Exif data",
+        b"tEXt" | b"zTXt" | b"iTXt" => return "texts (tEXt, zTXt, iTXt)".to_string(),
+        _ => return chunk_named(name),
+    };
+    format!("{meaning} ({})", String::from_utf8_lossy(name))
+}
+
+fn chunk_named(name: &[u8; 4]) -> String {
+    format!("chunk {}", String::from_utf8_lossy(name))
 }
 
 #[cfg(test)]
@@ -273,7 +294,7 @@ mod tests {
     /// Each kept chunk is in the file that is written, as it was and in its order; the others are not.
     #[test]
     fn what_is_said_beside_the_pixels_is_kept() {
-        let names = [b"gAMA", b"cHRM", b"sRGB", b"iCCP", b"pHYs", b"tEXt", b"zTXt", b"iTXt"];
+        let names = [b"gAMA", b"cHRM", b"sRGB", b"iCCP", b"cICP", b"pHYs", b"tEXt", b"zTXt", b"iTXt", b"eXIf", b"prVt"];
         let mut seen = Vec::new();
         for bytes in [&fixture!("metadata-srgb")[..], fixture!("metadata-icc")] {
             let is_kept = |chunk: &Chunk| names.contains(&&chunk.name);
@@ -289,6 +310,9 @@ mod tests {
         assert_eq!(sheet.extras.resolution, Resolution::new(5000, 4000));
         let others: Vec<[u8; 4]> = chunks_of(&save(&sheet)).iter().map(|chunk| chunk.name).collect();
         assert!(!others.contains(b"tIME") && others.ends_with(&[*b"IDAT", *b"iTXt", *b"IEND"]));
+        // Of what is left out, only that is told which may be missed.
+        assert_eq!(sheet.extras.dropped, Vec::<String>::new());
+        assert_eq!(load(fixture!("metadata-icc")).unwrap().extras.dropped, ["chunk prVT"; 2]);
     }
 
     #[test]
@@ -296,7 +320,7 @@ mod tests {
         let mut sheet = load(fixture!("metadata-srgb")).unwrap();
         let through = bmp::read(&bmp::write(&sheet)).unwrap();
         let back = load(&save(&through)).unwrap();
-        assert_eq!(back.extras, Extras { resolution: Resolution::new(5000, 4000), chunks: Vec::new() });
+        assert_eq!(back.extras, Extras { resolution: Resolution::new(5000, 4000), ..Extras::default() });
         sheet.extras = load(fixture!("metadata-icc")).unwrap().extras;
         assert_eq!(sheet.extras.resolution, None);
         assert_eq!(bmp::read(&bmp::write(&sheet)).unwrap().extras, Extras::default());
@@ -410,7 +434,7 @@ mod tests {
     #[test]
     fn kept_chunks_in_disorder() {
         let grey = header(8, 0, 0);
-        for (name, length) in [(b"gAMA", 4), (b"cHRM", 32), (b"sRGB", 1), (b"pHYs", 9)] {
+        for (name, length) in [(b"gAMA", 4), (b"cHRM", 32), (b"sRGB", 1), (b"cICP", 4), (b"pHYs", 9)] {
             let said = String::from_utf8_lossy(name);
             assert!(load(&built(&grey, name, &vec![0; length])).is_ok());
             refused(&built(&grey, name, &vec![0; length - 1]), &format!("{said}: it has {} bytes", length - 1));

@@ -19,6 +19,8 @@ pub struct Extras {
     pub resolution: Option<Resolution>,
     /// What only a PNG file can say: its chunks as they are, in order.
     pub chunks: Vec<Chunk>,
+    /// What no written file will say, in words.
+    pub dropped: Vec<String>,
 }
 
 /// Pixels per metre. PNG and BMP files can both say it.

@@ -59,20 +59,18 @@ pub fn packed(sheet: &Sheet, path: &Path, progress: &mut Progress) -> Result<Vec
     })
 }
 
-/// What the sheet's file says beside its pixels and a file of this name cannot, in words.
-pub fn lost(sheet: &Sheet, path: &Path) -> Vec<&'static str> {
-    let mut lost = Vec::new();
-    if format(path) != Ok(Format::Bmp) {
-        return lost;
-    }
-    for chunk in &sheet.extras.chunks {
-        let meaning = png::meaning(&chunk.name);
+/// That something which the sheet's file says beside its pixels will not be in a file of this name.
+pub fn lost(sheet: &Sheet, path: &Path) -> Option<String> {
+    let only_png = if format(path) == Ok(Format::Bmp) { &sheet.extras.chunks[..] } else { &[] };
+    let mut lost: Vec<String> = Vec::new();
+    for what in sheet.extras.dropped.iter().cloned().chain(only_png.iter().map(|chunk| png::meaning(&chunk.name))) {
         // There may be many texts.
-        if !lost.contains(&meaning) {
-            lost.push(meaning);
+        if !lost.contains(&what) {
+            lost.push(what);
         }
     }
-    lost
+    let words = || format!("{}: not kept of what the sheet's file says: {}", path.display(), lost.join(", "));
+    (!lost.is_empty()).then(words)
 }
 
 #[cfg(test)]
@@ -83,11 +81,14 @@ mod tests {
     fn only_a_bmp_loses_what_png_files_say() {
         let bytes = include_bytes!("../tests/fixtures/metadata-icc.png");
         let sheet = png::read(bytes, "", &mut Progress::quiet()).unwrap();
-        assert!(lost(&sheet, Path::new("out.png")).is_empty());
-        let words = ["the pixels' shape (pHYs)", "the colour profile (iCCP)", "texts (tEXt, zTXt, iTXt)"];
-        assert_eq!(lost(&sheet, Path::new("out.bmp")), words);
+        let says = |name: &str| lost(&sheet, Path::new(name)).unwrap();
+        assert_eq!(says("out.png"), "out.png: not kept of what the sheet's file says: chunk prVT");
+        let words =
+            "chunk prVT, the pixels' shape (pHYs), the colour profile (iCCP), the Exif data (eXIf), chunk prVt, \
+                     texts (tEXt, zTXt, iTXt)";
+        assert_eq!(says("out.bmp"), format!("out.bmp: not kept of what the sheet's file says: {words}"));
         let through_bmp = bmp::read(&bmp::write(&sheet)).unwrap();
-        assert!(lost(&through_bmp, Path::new("out.bmp")).is_empty());
+        assert_eq!(lost(&through_bmp, Path::new("out.bmp")), None);
     }
 
     #[test]

@@ -97,6 +97,9 @@ pub fn run(arguments: &[OsString], out: &mut Out) -> Result<u8, String> {
         out.line(&format!("{}; nothing was written (--strict)", tally.line()));
         return Ok(tally.code());
     }
+    if let Some(lost) = asked.out.as_ref().and_then(|out| sheet_files::lost(&sheet, out)) {
+        tally.warn(&lost);
+    }
 
     let clip = asked.clip.unwrap_or_else(|| whole(&sheet));
     let scratch = (asked.journal.is_none() || asked.dry_run).then(Journal::new);
@@ -110,7 +113,7 @@ pub fn run(arguments: &[OsString], out: &mut Out) -> Result<u8, String> {
     }
     let Playing { sheet, journal, tally, out, .. } = playing;
     asked.write(sheet, &journal, before, lock, &mut progress)?;
-    asked.end(sheet, &journal, tally, out)
+    asked.end(&journal, tally, out)
 }
 
 impl Asked {
@@ -222,11 +225,8 @@ impl Asked {
     }
 
     /// What is said at the end.
-    fn end(&self, sheet: &Sheet, journal: &Journal, mut tally: Tally, out: &mut Out) -> Result<u8, String> {
+    fn end(&self, journal: &Journal, tally: Tally, out: &mut Out) -> Result<u8, String> {
         let Some(written) = &self.out else { return Ok(tally.code()) };
-        for lost in sheet_files::lost(sheet, written) {
-            tally.warn(&format!("{}: a .bmp file cannot keep the sheet's {lost}", written.display()));
-        }
         if let Some(path) = &self.journal {
             let plays = words::things(journal.list().len() as u64, "play");
             out.line(&format!("journal {} holds {plays}", path.display()));

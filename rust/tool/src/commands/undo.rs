@@ -5,7 +5,7 @@ use std::ffi::OsString;
 use face::constants::NOTHING;
 
 use super::arguments::Known;
-use super::output::{Out, FINE};
+use super::output::{complain, Out, FINE, WARNED};
 use super::recovery;
 use super::results::{write_both, Before, JournalFile, Picture};
 use crate::journal::Journal;
@@ -28,7 +28,7 @@ be the sheet as the plays left it; if it is not, nothing is changed.
   --force          writes over OUT if it is there and not read-only
   --no-wait        an error if another run has the journal; without it, waits for that run
 
-Exit status: 0 all went well, 1 an error of files or use.
+Exit status: 0 all went well, 1 an error of files or use, 3 there are warnings.
 ";
 
 pub fn run(arguments: &[OsString], out: &mut Out) -> Result<u8, String> {
@@ -86,6 +86,10 @@ pub fn run(arguments: &[OsString], out: &mut Out) -> Result<u8, String> {
         out.line(&format!("play {number} taken back: {}", words::things(pixels.into(), "pixel")));
         progress.tell("taking back", done as usize + 1, count as usize);
     }
+    let lost = sheet_files::lost(&sheet, &out_path);
+    if let Some(lost) = &lost {
+        complain(&format!("warning: {lost}"));
+    }
     let picture = Picture { sheet: &sheet, from: sheet_path, out: &out_path, force };
     let file = JournalFile { journal: &journal, path: &journal_path, before: Before::Continued, lock: &mut lock };
     write_both(picture, Some(file), &mut progress)?;
@@ -95,7 +99,7 @@ pub fn run(arguments: &[OsString], out: &mut Out) -> Result<u8, String> {
         words::things(count, "play"),
         out_path.display()
     ));
-    Ok(FINE)
+    Ok(if lost.is_some() { WARNED } else { FINE })
 }
 
 fn plays(text: &str) -> Result<u64, String> {
