@@ -13,6 +13,7 @@ pub mod record_types;
 pub mod words;
 
 pub mod emf;
+pub mod emf_header;
 pub mod facts;
 pub mod file_kinds;
 pub mod files;

@@ -5,6 +5,7 @@ use std::collections::BTreeMap;
 use crate::bytes::u32_at;
 use crate::device::{At, Brush, Device};
 use crate::emf::{self, Damage, Record};
+use crate::emf_header::EmfHeader;
 use crate::facts::{Facts, Rectangle, Target};
 use crate::library::{self, Which};
 use crate::reach::{reach, Area};
@@ -54,6 +55,8 @@ impl Listed<'_> {
 }
 
 pub struct Survey<'a> {
+    /// None where the walk has not come past it.
+    pub header: Option<EmfHeader>,
     pub records: Vec<Listed<'a>>,
     /// How many records are no bitmap records, beside header and EOF.
     pub others: u64,
@@ -68,11 +71,12 @@ pub struct Survey<'a> {
 /// Walks the file. `brush` is the colour that plays will use; `wanted` says which numbers are to be played.
 pub fn survey(bytes: &[u8], brush: u32, wanted: impl Fn(usize) -> bool) -> Survey<'_> {
     let mut seen = Seen::new(brush);
-    let mut damage = None;
+    let (mut header, mut damage) = (None, None);
     let mut walk = emf::walk(bytes);
     for step in walk.by_ref() {
         match step {
             Ok(record) if record_types::is_bitmap(record.kind) => seen.bitmap(record, &wanted),
+            Ok(record) if record.offset == 0 => header = EmfHeader::read(record.bytes),
             Ok(record) if record.kind != HEADER && record.kind != EOF => seen.other(&record),
             Ok(_) => {}
             Err(found) => damage = Some(found),
@@ -87,7 +91,7 @@ pub fn survey(bytes: &[u8], brush: u32, wanted: impl Fn(usize) -> bool) -> Surve
     if behind > 0 {
         warnings.push(format!("{} behind the EOF record not looked at", words::things(behind as u64, "byte")));
     }
-    Survey { skipped: seen.skipped(), records: seen.records, others: seen.others, warnings, damage }
+    Survey { header, skipped: seen.skipped(), records: seen.records, others: seen.others, warnings, damage }
 }
 
 /// What the walk has come by.

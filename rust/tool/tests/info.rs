@@ -12,6 +12,9 @@ use records::{Record, ALPHABLEND, STRETCHDIBITS};
 const PIXEL: [u32; 11] = [40, 1, 1, 0x0018_0001, 0, 0, 0, 0, 0, 0, 0x00FF_FFFF];
 const IDENTITY: [u32; 6] = [0x3F80_0000, 0, 0, 0x3F80_0000, 0, 0];
 const BOUNDS: [u32; 4] = [0, 1, 2, 3];
+/// Of every file that the tests make.
+const HEADER: &str =
+    "header: Bounds 0, 0, 4095, 4095; frame 40.95 by 40.95 mm; device 4096 by 4096 pixels, 1000 by 1000 mm\n";
 
 /// A record of these fields behind Type, Size and Bounds.
 fn made(kind: u32, fields: &[&[u32]]) -> Vec<u8> {
@@ -60,6 +63,7 @@ fn played_records_are_told_in_full() {
     let ended = folder.run("info a.emf").expect(0);
     let expected = "\
 a.emf: 536 bytes
+header: Bounds 0, 0, 4095, 4095; frame 40.95 by 40.95 mm; device 4096 by 4096 pixels, 1000 by 1000 mm
 record 1 at offset 88: alpha blend (EMR_ALPHABLEND, 0x72), Size 152
   Bounds 0, 0, 4095, 4095; target 20 by 10 at 3, 4
   source 1 by 1 at 0, 0 of a picture 1 by 1, 32 bits, BI_RGB, 40-byte header
@@ -90,6 +94,7 @@ fn types_that_are_not_played_are_listed() {
     let ended = folder.run("info a.emf").expect(2);
     let expected = "\
 a.emf: 896 bytes
+header: Bounds 0, 0, 4095, 4095; frame 40.95 by 40.95 mm; device 4096 by 4096 pixels, 1000 by 1000 mm
 record 1 at offset 88: EMR_BITBLT (0x4C), Size 144
   Bounds 0, 1, 2, 3; target 5 by 6 at 10, 20
   source 5 by 6 at 7, 8 of a picture 1 by 1, 24 bits, BI_RGB, 40-byte header
@@ -183,6 +188,7 @@ fn records_too_short_for_their_fields() {
     folder.put("a.emf", &emf(&[words(&[0x72, 8]), cut(&mask_record([0, 0, 3, 3]), 44), cut(&tilted(), 28), headless]));
     let expected = "\
 a.emf: 316 bytes
+header: Bounds 0, 0, 4095, 4095; frame 40.95 by 40.95 mm; device 4096 by 4096 pixels, 1000 by 1000 mm
 record 1 at offset 88: alpha blend (EMR_ALPHABLEND, 0x72), Size 8
   cut off: 8 of the 108 bytes of its fixed part
   status 5: Size 8 is below 108, the fixed part of EMR_ALPHABLEND
@@ -233,9 +239,9 @@ record 1 at offset 88: stretched DIB (EMR_STRETCHDIBITS, 0x51), Size 80
     };
     let (one, no) = (counts(1), counts(0));
     let expected = format!(
-        "damaged.emf: 332 bytes\n{block}1 bitmap record before the damage: {one}; 0 other records\n\n\
-         a.emf: 188 bytes\n{block}1 bitmap record: {one}; 0 other records\n\n\
-         none.emf: 120 bytes\nwarning: no bitmap record: nothing of this file is drawn\n\
+        "damaged.emf: 332 bytes\n{HEADER}{block}1 bitmap record before the damage: {one}; 0 other records\n\n\
+         a.emf: 188 bytes\n{HEADER}{block}1 bitmap record: {one}; 0 other records\n\n\
+         none.emf: 120 bytes\n{HEADER}warning: no bitmap record: nothing of this file is drawn\n\
          0 bitmap records: {no}; 1 other record\n"
     );
     assert_eq!(ended.out, expected);
@@ -254,6 +260,7 @@ record 1 at offset 88: stretched DIB (EMR_STRETCHDIBITS, 0x51), Size 80
     let words = "damaged.emf is damaged: offset 168: the record's Size is 6; 8 is the least";
     assert_eq!(files[0]["error"].text(), words);
     assert_eq!((&files[1]["bytes"], &files[3]["bytes"]), (&Json::Null, &Json::Null));
+    assert_eq!((&files[1]["header"], &files[4]["header"]["Device"]["width"]), (&Json::Null, &Json::Number(4096.0)));
     assert_eq!(files[4]["summary"]["other_records"].number(), 1.0);
 }
 
@@ -304,7 +311,11 @@ fn the_same_facts_as_json() {
     let records = [blend_record([3, 4, 20, 10], 0x8040_2010), mask_record([0, 0, 33, 30]), no_alpha(), bit_blit()];
     folder.put("a.emf", &emf(&records));
     let text = folder.run("info a.emf --json").expect(2).out;
-    let head = "{\"files\": [\n{\"file\": \"a.emf\", \"bytes\": 752, \"records\": [\n{\"number\": 1, \"offset\": 88, \
+    let head = "{\"files\": [\n{\"file\": \"a.emf\", \"bytes\": 752, \
+                \"header\": {\"Bounds\": {\"left\": 0, \"top\": 0, \"right\": 4095, \"bottom\": 4095}, \
+                \"Frame\": {\"left\": 0, \"top\": 0, \"right\": 4095, \"bottom\": 4095}, \
+                \"Device\": {\"width\": 4096, \"height\": 4096}, \"Millimeters\": {\"width\": 1000, \"height\": 1000}, \
+                \"description\": []}, \"records\": [\n{\"number\": 1, \"offset\": 88, \
                 \"type\": 114, \"type_name\": \"EMR_ALPHABLEND\", \"Size\": 152, \
                 \"Bounds\": {\"left\": 0, \"top\": 0, \"right\": 4095, \"bottom\": 4095}, \
                 \"target\": {\"x\": 3, \"y\": 4, \"cx\": 20, \"cy\": 10}, \
@@ -342,6 +353,27 @@ fn the_same_facts_as_json() {
     assert_eq!((blit["type_name"].text(), blit["verdict"].text()), ("EMR_BITBLT", "not played"));
     assert_eq!((blit["status"].number(), blit["operation"]["raster_name"].text()), (4.0, "SRCAND"));
     assert_eq!(numbers(&blit["source_rectangle"], ["x", "y", "cx", "cy"]), [7.0, 8.0, 5.0, 6.0]);
+}
+
+/// The program that made a file often says so in its header. No character of that acts on a terminal.
+#[test]
+fn the_header_tells_who_made_the_file() {
+    let folder = Folder::new("the_header_tells_who_made_the_file");
+    let text: Vec<u16> = "Snow\u{1B}[2J 3\0bands\0\0".encode_utf16().collect();
+    let tail: Vec<u8> = text.iter().flat_map(|character| character.to_le_bytes()).collect();
+    let plain = emf(&[brush_record([0, 0, 2, 2])]);
+    let header = with(&with(&with(&plain[..88], 4, 88 + tail.len() as u32), 60, text.len() as u32), 64, 88);
+    let header = with(&with(&header, 24, -1000i32 as u32), 84, 500);
+    folder.put("a.emf", &[&header, &tail, &plain[88..]].concat());
+    let ended = folder.run("info a.emf").expect(0);
+    let line = "header: Bounds 0, 0, 4095, 4095; frame 50.95 by 40.95 mm; device 4096 by 4096 pixels, 1000 by 500 mm; \
+                \"Snow\\u{1b}[2J 3\"; \"bands\"";
+    assert_eq!(ended.out.lines().nth(1), Some(line));
+    let parsed = Json::parse(&folder.run("info a.emf --json").expect(0).out);
+    let header = &parsed["files"][0]["header"];
+    let told: Vec<&str> = header["description"].items().iter().map(Json::text).collect();
+    assert_eq!(told, ["Snow\u{1B}[2J 3", "bands"]);
+    assert_eq!((header["Frame"]["left"].number(), header["Millimeters"]["height"].number()), (-1000.0, 500.0));
 }
 
 /// Floats that JSON has no number for, and every type at once.

@@ -11,6 +11,7 @@ use face::constants::{MOST_SIDE, OK};
 use super::arguments::Known;
 use super::emf_files;
 use super::output::{complain, Out, ERROR, FINE, REFUSED, WARNED};
+use crate::emf_header::EmfHeader;
 use crate::facts::Facts;
 use crate::library::{self, Which};
 use crate::reach::Area;
@@ -26,7 +27,8 @@ Lists the bitmap records of each file and says of each whether it can be played,
 (1, 2, 3 .. in the file's order), offset in the file, type, Size in bytes, Bounds (left, top, right, bottom), target,
 source rectangle, pictures, operation, status. A record that would be refused is listed with the reason. Numbers count
 all eight bitmap types: EMR_BITBLT, EMR_STRETCHBLT, EMR_MASKBLT, EMR_PLGBLT, EMR_SETDIBITSTODEVICE, EMR_STRETCHDIBITS,
-EMR_ALPHABLEND and EMR_TRANSPARENTBLT. Other records are counted at the file's end.
+EMR_ALPHABLEND and EMR_TRANSPARENTBLT. Other records are counted at the file's end. The header's line tells the size of
+the whole picture and the device for which the file was made; coordinates are taken as sheet pixels all the same.
 
 What a file sets and play does not honour (mappings, clips, brushes, other drawing) is listed as warnings, and so is a
 record that would draw nothing on any sheet. `play --dry-run` tells the same for one sheet. A file that cannot be read
@@ -82,7 +84,7 @@ struct Summary {
 trait Listing {
     fn begin(&mut self, out: &mut Out);
     fn unreadable(&mut self, path: &Path, error: &str, out: &mut Out);
-    fn file(&mut self, path: &Path, bytes: usize, out: &mut Out);
+    fn file(&mut self, path: &Path, bytes: usize, header: Option<&EmfHeader>, out: &mut Out);
     fn record(&mut self, entry: &Entry, out: &mut Out);
     fn file_end(&mut self, summary: &Summary, out: &mut Out);
     fn end(&mut self, out: &mut Out);
@@ -124,9 +126,9 @@ fn list(path: &Path, listing: &mut dyn Listing, out: &mut Out) -> u8 {
             return ERROR;
         }
     };
-    listing.file(path, bytes.len(), out);
     // Without a brush that is given, a play uses black.
     let survey = survey(&bytes, 0, |_| true);
+    listing.file(path, bytes.len(), survey.header.as_ref(), out);
     let mut summary = Summary { others: survey.others, warnings: survey.warnings, ..Summary::default() };
     for listed in &survey.records {
         let entry = examine(listed);

@@ -4,7 +4,8 @@ use std::path::Path;
 
 use super::{Entry, Listing, Summary, Verdict, PLAYED_TYPES};
 use crate::commands::output::Out;
-use crate::facts::{names, Facts, Header, Masks, Operation, Part, Picture, Rectangle, Target};
+use crate::emf_header::EmfHeader;
+use crate::facts::{names, Header, Masks, Operation, Part, Picture, Rectangle, Target};
 use crate::json::{members, Value};
 use crate::record_types;
 
@@ -21,12 +22,12 @@ impl Listing for Json {
     }
 
     fn unreadable(&mut self, path: &Path, error: &str, out: &mut Out) {
-        self.file_begin(path, Value::Null, out);
+        self.file_begin(path, Value::Null, None, out);
         self.file_end(&Summary { error: Some(error.to_string()), ..Summary::default() }, out);
     }
 
-    fn file(&mut self, path: &Path, bytes: usize, out: &mut Out) {
-        self.file_begin(path, number(bytes as u64), out);
+    fn file(&mut self, path: &Path, bytes: usize, header: Option<&EmfHeader>, out: &mut Out) {
+        self.file_begin(path, number(bytes as u64), header, out);
     }
 
     fn record(&mut self, entry: &Entry, out: &mut Out) {
@@ -58,12 +59,13 @@ impl Listing for Json {
 }
 
 impl Json {
-    fn file_begin(&mut self, path: &Path, bytes: Value, out: &mut Out) {
+    fn file_begin(&mut self, path: &Path, bytes: Value, header: Option<&EmfHeader>, out: &mut Out) {
         let comma = if self.files > 0 { "," } else { "" };
         self.files += 1;
         self.records = 0;
         // A name need not be Unicode, but JSON is: what is not is shown by U+FFFD.
-        let begin = members(&[("file", path.to_string_lossy().into_owned().into()), ("bytes", bytes)]);
+        let file = path.to_string_lossy().into_owned();
+        let begin = members(&[("file", file.into()), ("bytes", bytes), ("header", header.map(emf_header).into())]);
         out.text(&format!("{comma}\n{{{begin}, \"records\": ["));
     }
 }
@@ -91,7 +93,7 @@ fn record(entry: &Entry) -> Value {
         ("type", facts.kind.into()),
         ("type_name", facts.kind.map(|kind| record_types::name(kind).into_owned()).into()),
         ("Size", facts.size.into()),
-        ("Bounds", bounds(facts)),
+        ("Bounds", facts.bounds.map(corners).into()),
         ("target", facts.target.map(target).into()),
         ("source_rectangle", facts.source_rectangle.map(rectangle).into()),
         ("XformSrc", facts.transform.into()),
@@ -106,11 +108,19 @@ fn record(entry: &Entry) -> Value {
     ])
 }
 
-fn bounds(facts: &Facts) -> Value {
-    let object = |[left, top, right, bottom]: [i32; 4]| {
-        object([("left", left.into()), ("top", top.into()), ("right", right.into()), ("bottom", bottom.into())])
-    };
-    facts.bounds.map(object).into()
+fn emf_header(header: &EmfHeader) -> Value {
+    let size = |[width, height]: [i32; 2]| object([("width", width.into()), ("height", height.into())]);
+    object([
+        ("Bounds", corners(header.bounds)),
+        ("Frame", corners(header.frame)),
+        ("Device", size(header.device)),
+        ("Millimeters", size(header.millimetres)),
+        ("description", header.description[..].into()),
+    ])
+}
+
+fn corners([left, top, right, bottom]: [i32; 4]) -> Value {
+    object([("left", left.into()), ("top", top.into()), ("right", right.into()), ("bottom", bottom.into())])
 }
 
 fn target(target: Target) -> Value {

@@ -4,6 +4,7 @@ use std::path::Path;
 
 use super::{Entry, Listing, Summary, Verdict, PLAYED_TYPES};
 use crate::commands::output::Out;
+use crate::emf_header::EmfHeader;
 use crate::facts::{names, Facts, Header, Operation, Picture, Rectangle, Target};
 use crate::{record_types, words};
 
@@ -18,12 +19,15 @@ impl Listing for Text {
     /// Standard error has been told.
     fn unreadable(&mut self, _: &Path, _: &str, _: &mut Out) {}
 
-    fn file(&mut self, path: &Path, bytes: usize, out: &mut Out) {
+    fn file(&mut self, path: &Path, bytes: usize, header: Option<&EmfHeader>, out: &mut Out) {
         if self.files > 0 {
             out.line("");
         }
         self.files += 1;
         out.line(&format!("{}: {}", path.display(), words::things(bytes as u64, "byte")));
+        if let Some(header) = header {
+            out.line(&format!("header: {}", whole_picture(header)));
+        }
     }
 
     fn record(&mut self, entry: &Entry, out: &mut Out) {
@@ -63,6 +67,20 @@ impl Listing for Text {
     }
 
     fn end(&mut self, _: &mut Out) {}
+}
+
+fn whole_picture(header: &EmfHeader) -> String {
+    let [left, top, right, bottom] = header.bounds;
+    let ([width, height], [across, down]) = (header.device, header.millimetres);
+    let millimetres = |from: usize| f64::from(header.frame[from + 2]) / 100.0 - f64::from(header.frame[from]) / 100.0;
+    // Quoted, so that no character in it acts on a terminal.
+    let described: String = header.description.iter().map(|part| format!("; {part:?}")).collect();
+    format!(
+        "Bounds {left}, {top}, {right}, {bottom}; frame {:.2} by {:.2} mm; device {width} by {height} pixels, {across} by \
+         {down} mm{described}",
+        millimetres(0),
+        millimetres(1)
+    )
 }
 
 /// The record's facts, a line for each subject; what is absent is left out.
