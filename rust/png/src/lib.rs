@@ -20,6 +20,8 @@ pub struct Header {
     /// Bits a channel; of a palette picture, bits an index.
     pub bits: u32,
     pub interlaced: bool,
+    /// Shades of grey alone; no palette.
+    pub grey: bool,
 }
 
 /// A chunk that the pixels do not depend on, as it is.
@@ -54,8 +56,8 @@ impl<'a> Reader<'a> {
     }
 
     pub fn header(&self) -> Header {
-        let raw::Header { width, height, bits, passes } = self.header;
-        Header { width, height, bits, interlaced: passes > 1 }
+        let raw::Header { width, height, bits, passes, grey } = self.header;
+        Header { width, height, bits, interlaced: passes > 1, grey: grey != 0 }
     }
 
     /// Decodes all pixels and gives the chunks that they do not depend on, in their order. `tell` hears how many rows are done of how many.

@@ -24,6 +24,7 @@ pub struct Header {
     pub height: u32,
     pub bits: u32,
     pub passes: u32,
+    pub grey: u32,
 }
 
 #[repr(C)]

@@ -108,7 +108,9 @@ static bool read_header(struct png_shim_reader *reader) {
     reader->header.width = png_get_image_width(reader->png, reader->info);
     reader->header.height = png_get_image_height(reader->png, reader->info);
     reader->header.bits = png_get_bit_depth(reader->png, reader->info);
-    reader->palette = png_get_color_type(reader->png, reader->info) == PNG_COLOR_TYPE_PALETTE;
+    int colours = png_get_color_type(reader->png, reader->info);
+    reader->palette = colours == PNG_COLOR_TYPE_PALETTE;
+    reader->header.grey = !(colours & PNG_COLOR_MASK_COLOR);
     set_expansion(reader);
     return true;
 }

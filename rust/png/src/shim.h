@@ -16,6 +16,7 @@ struct png_shim_header {
     uint32_t height;
     uint32_t bits;   /* a channel; of palette pictures, an index */
     uint32_t passes; /* over all rows: 7 where it is interlaced, else 1 */
+    uint32_t grey;   /* 1 where the file has shades of grey alone */
 };
 
 /* A chunk that the pixels do not depend on, as it is. Its data belong to the reader. */

@@ -19,7 +19,7 @@ fn there_and_back() {
     assert_eq!(told, [(64, 200), (128, 200), (192, 200), (200, 200)]);
     let reader = Reader::open(&bytes).unwrap();
     let header = reader.header();
-    assert_eq!((header.width, header.height, header.bits, header.interlaced), (300, 200, 8, false));
+    assert_eq!((header.width, header.height, header.bits, header.interlaced, header.grey), (300, 200, 8, false, false));
     let (mut back, mut heard) = (vec![0; pixels.len()], Vec::new());
     assert_eq!(reader.read(&mut back, &mut |done, total| heard.push((done, total))).unwrap(), chunks);
     assert_eq!((back, heard), (pixels, told));

@@ -67,10 +67,20 @@ pub fn read(bytes: &[u8]) -> Result<Sheet, String> {
             pixels.push(pixel(alpha, red, green, blue));
         }
     }
-    let dropped = if length >= V4_HEADER { colour_space(header(56)?) } else { None };
+    let colours = if length >= V4_HEADER { colour_space(header(56)?) } else { None };
+    // Without an alpha mask there is no alpha, but some programs keep one there all the same.
+    let unused = (0..step).find(|byte| !places.contains(&Some(*byte)));
+    let fourth = unused.filter(|byte| differs(body.iter().skip(*byte).step_by(step)));
+    let fourth = fourth.map(|_| "the fourth byte of its pixels, which is no alpha".to_string());
     let resolution = Resolution::new(header(24)?, header(28)?);
-    let extras = Extras { resolution, dropped: dropped.into_iter().collect(), ..Extras::default() };
+    let extras = Extras { resolution, dropped: colours.into_iter().chain(fourth).collect(), ..Extras::default() };
     Ok(Sheet { surface: Surface { width: width as u32, height: rows, pixels }, deep: bits == 32, extras })
+}
+
+/// Whether the bytes are neither all 0 nor all 255.
+fn differs<'a>(mut bytes: impl Iterator<Item = &'a u8>) -> bool {
+    let first = bytes.next();
+    !matches!(first, None | Some(0 | 255)) || bytes.any(|byte| Some(byte) != first)
 }
 
 /// What the header says of the colours, where it is more than that they are usual ones. No file that is written has it.

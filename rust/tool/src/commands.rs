@@ -15,7 +15,7 @@ mod undo;
 
 use std::ffi::OsString;
 
-use output::{complain, Out, ERROR, FINE};
+use output::{complain, Out, ERROR, FINE, WARNED};
 
 const HELP: &str = "\
 lacrumont plays the bitmap records of EMF files onto a sheet (an orthophoto), keeps a journal of every old pixel,
@@ -46,7 +46,14 @@ Exit status: 0  every wanted bitmap record was played (info: can be), and nothin
 /// Runs the command these arguments name, and gives the exit status.
 pub fn run(arguments: Vec<OsString>) -> u8 {
     let mut out = Out::default();
-    let ended = dispatch(&arguments, &mut out).and_then(|code| out.end().map(|()| code));
+    let ended = match (dispatch(&arguments, &mut out), out.end()) {
+        // The files are there, so this is no error that says otherwise.
+        (Ok(code), Err(words)) if arguments[0] == "play" || arguments[0] == "undo" => {
+            complain(&format!("warning: {words}"));
+            Ok(if code == FINE { WARNED } else { code })
+        }
+        (ended, said) => ended.and_then(|code| said.map(|()| code)),
+    };
     ended.unwrap_or_else(|words| {
         complain(&words);
         ERROR

@@ -1,4 +1,5 @@
-//! What the records of an EMF file set for those behind them: mapping, clip, stretch mode and brush (MS-EMF, 2.3).
+//! What the records of an EMF file set for those behind them: mapping, clip, stretch mode, colours, brush and whether a
+//! path is under way (MS-EMF, 2.3).
 //!
 //! None of it is honoured: the library takes logical coordinates as sheet pixels, and clip and brush come with a play.
 //! It is followed so that the tool can say where it matters.
@@ -15,6 +16,7 @@ const SETVIEWPORTEXTEX: u32 = 11;
 const SETVIEWPORTORGEX: u32 = 12;
 const SETMAPMODE: u32 = 17;
 const SETSTRETCHBLTMODE: u32 = 21;
+const SETCOLORADJUSTMENT: u32 = 23;
 const OFFSETCLIPRGN: u32 = 26;
 const SETMETARGN: u32 = 28;
 const EXCLUDECLIPRECT: u32 = 29;
@@ -30,22 +32,30 @@ const CREATEPEN: u32 = 38;
 const CREATEBRUSHINDIRECT: u32 = 39;
 const DELETEOBJECT: u32 = 40;
 const CREATEPALETTE: u32 = 49;
+const BEGINPATH: u32 = 59;
+const ENDPATH: u32 = 60;
 const SELECTCLIPPATH: u32 = 67;
+const ABORTPATH: u32 = 68;
 const EXTSELECTCLIPRGN: u32 = 75;
 const EXTCREATEFONTINDIRECTW: u32 = 82;
 const CREATEMONOBRUSH: u32 = 93;
 const CREATEDIBPATTERNBRUSHPT: u32 = 94;
 const EXTCREATEPEN: u32 = 95;
+const SETICMMODE: u32 = 98;
 const SETLAYOUT: u32 = 115;
 
 const MM_TEXT: u32 = 1;
 const MM_ISOTROPIC: u32 = 7;
 const MM_ANISOTROPIC: u32 = 8;
 const COLORONCOLOR: u32 = 3;
+const ICM_OFF: u32 = 1;
+const ICM_ON: u32 = 2;
 /// A region operation that puts the new region in the old one's place.
 const RGN_COPY: u32 = 5;
 /// Handles from here on are the system's own objects.
 const STOCK: u32 = 0x8000_0000;
+/// States that are kept; no real file saves as many, and each takes memory.
+const MOST_SAVED: usize = 10_000;
 
 /// A record that has set something: where it stands, and its type.
 #[derive(Clone, Copy, Debug, PartialEq, Eq, Hash, PartialOrd, Ord)]
@@ -99,16 +109,24 @@ struct State {
     world: Setting<Transform>,
     layout: Setting<u32>,
     stretch: Setting<u32>,
-    clips: Vec<At>,
-    /// Clips that EMR_SETMETARGN has made lasting.
-    meta_clips: Vec<At>,
+    /// The last record that has cut the clip.
+    clip: Option<At>,
+    /// The last one whose clip EMR_SETMETARGN has made lasting.
+    meta_clip: Option<At>,
+    /// The record that has had colours matched to the device.
+    matching: Option<At>,
+    /// The record that has had colours adjusted where a picture is stretched.
+    adjustment: Option<At>,
     brush: Option<(At, Brush)>,
+    in_path: bool,
 }
 
 /// A device context, as the records so far have left it.
 pub struct Device {
     state: State,
     saved: Vec<State>,
+    /// How many states were saved beyond those that are kept.
+    not_kept: u64,
     brushes: HashMap<u32, Brush>,
 }
 
@@ -123,18 +141,22 @@ impl Device {
             world: Setting::first(IDENTITY),
             layout: Setting::first(0),
             stretch: Setting::first(COLORONCOLOR),
-            clips: Vec::new(),
-            meta_clips: Vec::new(),
+            clip: None,
+            meta_clip: None,
+            matching: None,
+            adjustment: None,
             brush: None,
+            in_path: false,
         };
-        Device { state, saved: Vec::new(), brushes: HashMap::new() }
+        Device { state, saved: Vec::new(), not_kept: 0, brushes: HashMap::new() }
     }
 
     /// The next record of the file.
     pub fn take(&mut self, record: &Record) {
         let at = At { offset: record.offset, kind: record.kind };
         match record.kind {
-            SAVEDC => self.saved.push(self.state.clone()),
+            SAVEDC if self.saved.len() < MOST_SAVED => self.saved.push(self.state.clone()),
+            SAVEDC => self.not_kept += 1,
             RESTOREDC => self.restore(i32_at(record.bytes, 8)),
             CREATEPEN..=DELETEOBJECT | CREATEPALETTE | EXTCREATEFONTINDIRECTW | CREATEMONOBRUSH..=EXTCREATEPEN => {
                 self.create(record)
@@ -146,6 +168,10 @@ impl Device {
 
     /// Negative numbers count from the state saved last, positive ones from the first.
     fn restore(&mut self, number: Option<i32>) {
+        if number == Some(-1) && self.not_kept > 0 {
+            self.not_kept -= 1;
+            return;
+        }
         let saved = self.saved.len() as i64;
         let place = match number {
             Some(number) if number < 0 => saved + i64::from(number),
@@ -163,10 +189,13 @@ impl Device {
         let Some(handle) = u32_at(record.bytes, 8) else { return };
         let brush = match record.kind {
             CREATEBRUSHINDIRECT => match (u32_at(record.bytes, 12), u32_at(record.bytes, 16)) {
+                // The high byte says whether the others are the colour itself.
+                (Some(0), Some(colour)) if colour >> 24 == 1 => Some(Brush::Other("a brush of a palette's colour")),
                 (Some(0), Some(colour)) => Some(Brush::Solid(colour.swap_bytes() >> 8)),
                 (Some(1), _) => Some(Brush::Other("a brush that draws nothing")),
                 (Some(2), _) => Some(Brush::Other("a hatched brush")),
-                _ => Some(Brush::Other("a pattern brush")),
+                (Some(_), Some(_)) => Some(Brush::Other("a pattern brush")),
+                _ => Some(Brush::Other("a brush whose record is cut off")),
             },
             CREATEMONOBRUSH | CREATEDIBPATTERNBRUSHPT => Some(Brush::Other("a pattern brush")),
             _ => None,
@@ -214,9 +243,24 @@ impl Device {
         self.state.mapping()
     }
 
-    /// The records whose clip is in force.
-    pub fn clips(&self) -> impl Iterator<Item = At> + '_ {
-        self.state.meta_clips.iter().chain(&self.state.clips).copied()
+    /// The last records whose clip is in force: one that lasts, one that does not.
+    pub fn clips(&self) -> impl Iterator<Item = At> {
+        self.state.meta_clip.into_iter().chain(self.state.clip)
+    }
+
+    /// The record that has had colours matched to the device.
+    pub fn matching(&self) -> Option<At> {
+        self.state.matching
+    }
+
+    /// The record that has had colours adjusted where a picture is stretched.
+    pub fn adjustment(&self) -> Option<At> {
+        self.state.adjustment
+    }
+
+    /// Whether shapes and text are only gathered, not drawn.
+    pub fn in_path(&self) -> bool {
+        self.state.in_path
     }
 }
 
@@ -229,11 +273,13 @@ impl Default for Device {
 impl State {
     fn take(&mut self, bytes: &[u8], at: At) {
         let pair = || Some([i32_at(bytes, 8)?, i32_at(bytes, 12)?]);
+        // An extent of 0 is refused, and the old one stays.
+        let extent = || pair().filter(|pair| !pair.contains(&0));
         match at.kind {
-            SETMAPMODE => self.mode.set(u32_at(bytes, 8), at),
-            SETWINDOWEXTEX => self.window_extent.set(pair(), at),
+            SETMAPMODE => self.set_mode(u32_at(bytes, 8), at),
+            SETWINDOWEXTEX => self.window_extent.set(extent(), at),
             SETWINDOWORGEX => self.window_origin.set(pair(), at),
-            SETVIEWPORTEXTEX => self.viewport_extent.set(pair(), at),
+            SETVIEWPORTEXTEX => self.viewport_extent.set(extent(), at),
             SETVIEWPORTORGEX => self.viewport_origin.set(pair(), at),
             SCALEWINDOWEXTEX => self.window_extent.set(scaled(self.window_extent.value, bytes), at),
             SCALEVIEWPORTEXTEX => self.viewport_extent.set(scaled(self.viewport_extent.value, bytes), at),
@@ -241,10 +287,18 @@ impl State {
             MODIFYWORLDTRANSFORM => self.world.set(modified(self.world.value, bytes), at),
             SETLAYOUT => self.layout.set(u32_at(bytes, 8), at),
             SETSTRETCHBLTMODE => self.stretch.set(u32_at(bytes, 8), at),
-            SETMETARGN => self.meta_clips.append(&mut self.clips),
+            SETCOLORADJUSTMENT => self.adjustment = Some(at),
+            SETICMMODE => match u32_at(bytes, 8) {
+                Some(ICM_ON) => self.matching = Some(at),
+                Some(ICM_OFF) => self.matching = None,
+                _ => {}
+            },
+            BEGINPATH => self.in_path = true,
+            ENDPATH | ABORTPATH => self.in_path = false,
+            SETMETARGN => self.meta_clip = self.clip.take().or(self.meta_clip),
             // Moving no clip does nothing.
-            OFFSETCLIPRGN if self.clips.is_empty() => {}
-            OFFSETCLIPRGN | EXCLUDECLIPRECT | INTERSECTCLIPRECT => self.clips.push(at),
+            OFFSETCLIPRGN if self.clip.is_none() => {}
+            OFFSETCLIPRGN | EXCLUDECLIPRECT | INTERSECTCLIPRECT => self.clip = Some(at),
             SELECTCLIPPATH => self.select_clip(u32_at(bytes, 8), false, at),
             EXTSELECTCLIPRGN => self.select_clip(u32_at(bytes, 12), u32_at(bytes, 8) == Some(0), at),
             _ => {}
@@ -253,13 +307,16 @@ impl State {
 
     /// A region joined to the clip or put in its place; an empty one in its place takes the clip away.
     fn select_clip(&mut self, mode: Option<u32>, empty: bool, at: At) {
-        if mode == Some(RGN_COPY) {
-            self.clips.clear();
-            if empty {
-                return;
-            }
+        self.clip = if mode == Some(RGN_COPY) && empty { None } else { Some(at) };
+    }
+
+    /// The metric modes have extents of their own, which stay when another mode follows.
+    fn set_mode(&mut self, mode: Option<u32>, at: At) {
+        self.mode.set(mode, at);
+        if mode.is_some_and(|mode| (MM_TEXT + 1..MM_ISOTROPIC).contains(&mode)) {
+            self.window_extent = Setting::first([1, 1]);
+            self.viewport_extent = Setting::first([1, 1]);
         }
-        self.clips.push(at);
     }
 
     fn mapping(&self) -> Vec<(At, String)> {
@@ -292,7 +349,8 @@ impl State {
             }
         }
         if self.layout.value != 0 {
-            add(self.layout.by, format!("a mirrored layout (0x{:X})", self.layout.value));
+            let mirrored = if self.layout.value & 1 == 1 { "a mirrored layout" } else { "a layout" };
+            add(self.layout.by, format!("{mirrored} (0x{:X})", self.layout.value));
         }
         found
     }
@@ -333,14 +391,15 @@ fn transform(bytes: &[u8]) -> Option<Transform> {
     Some(read)
 }
 
-/// The world transform behind EMR_MODIFYWORLDTRANSFORM: set back, multiplied from one side, or set.
+/// The world transform behind EMR_MODIFYWORLDTRANSFORM: set back, multiplied from one side, or set. Other modes do nothing.
 fn modified(world: Transform, bytes: &[u8]) -> Option<Transform> {
     let given = transform(bytes)?;
     Some(match u32_at(bytes, 32)? {
         1 => IDENTITY,
         2 => product(given, world),
         3 => product(world, given),
-        _ => given,
+        4 => given,
+        _ => return None,
     })
 }
 

@@ -1,7 +1,7 @@
 //! Reading whole files, and what must be known of a name before something is written there.
 
 use std::ffi::OsString;
-use std::fs::{self, File, OpenOptions};
+use std::fs::{self, File, OpenOptions, TryLockError};
 use std::io::{self, ErrorKind, Read};
 use std::os::unix::fs::{MetadataExt, PermissionsExt};
 use std::path::{Path, PathBuf};
@@ -61,6 +61,32 @@ pub fn same(one: &Path, other: &Path) -> bool {
 
 fn full(path: &Path) -> Option<PathBuf> {
     path.canonicalize().ok().or_else(|| Some(folder(path).canonicalize().ok()?.join(path.file_name()?)))
+}
+
+/// The file of this name, locked, so that runs that replace it go one after the other; `busy` decides whether to wait.
+/// None where there is no such file, or no lock to be had.
+pub fn hold(path: &Path, busy: impl Fn() -> Result<(), String>) -> Result<Option<File>, String> {
+    let mut told = false;
+    loop {
+        let Ok(file) = File::open(path) else { return Ok(None) };
+        match file.try_lock() {
+            Ok(()) => {}
+            Err(TryLockError::Error(_)) => return Ok(None),
+            Err(TryLockError::WouldBlock) => {
+                if !told {
+                    busy()?;
+                }
+                told = true;
+                if file.lock().is_err() {
+                    return Ok(None);
+                }
+            }
+        }
+        // Whoever had it may have put another file in its place.
+        if resolved(path).is_ok_and(|path| is_named(&file, &path)) {
+            return Ok(Some(file));
+        }
+    }
 }
 
 /// Whether the open file is the one that has this name now.

@@ -72,8 +72,15 @@ impl Lock {
             if path.symlink_metadata().is_ok_and(|there| !there.is_file()) {
                 return Err(foreign(&path).into());
             }
-            let mut file =
-                OpenOptions::new().read(true).write(true).create(true).truncate(false).open(&path).map_err(wrong)?;
+            let opened = OpenOptions::new().read(true).write(true).create(true).truncate(false).open(&path);
+            let (mut file, denied) = match opened {
+                Ok(file) => (file, None),
+                // Another user's, who may be at work: then that is what is told.
+                Err(error) => match File::open(&path) {
+                    Ok(file) if error.kind() == io::ErrorKind::PermissionDenied => (file, Some(error)),
+                    _ => return Err(wrong(error)),
+                },
+            };
             match file.try_lock() {
                 Ok(()) => {}
                 Err(TryLockError::Error(error)) => return Err(wrong(error)),
@@ -87,6 +94,9 @@ impl Lock {
             }
             // Its last owner has removed it, or another run has made a new one meanwhile.
             if files::is_named(&file, &path) {
+                if let Some(error) = denied {
+                    return Err(wrong(error));
+                }
                 let left = read(&mut file, &path)?;
                 return Ok((Lock { file, path, stays: true }, left));
             }

@@ -94,17 +94,35 @@ impl Pending {
         &self.target
     }
 
-    /// Whether the file has the owner and group of the one it replaces.
-    pub fn owned(&self) -> bool {
-        self.owned
+    /// That the file has not the owner and group of the one it replaces.
+    pub fn not_kept(&self) -> Option<String> {
+        (!self.owned).then(|| format!("{}: its owner or group could not be kept", self.name.display()))
     }
 
-    /// Gives the file its name, whatever has it.
-    pub fn put(&mut self) -> Result<(), String> {
-        fs::rename(&self.temporary, &self.target)
-            .map_err(|error| format!("cannot write {}: {error}", self.name.display()))?;
+    /// Gives the file its name; only `over` replaces a file that has it.
+    pub fn put(&mut self, over: bool) -> Result<(), String> {
+        let put = if over { fs::rename(&self.temporary, &self.target) } else { self.put_new() };
+        put.map_err(|error| match error.kind() {
+            ErrorKind::AlreadyExists => format!("{} has come into being meanwhile", self.name.display()),
+            _ => format!("cannot write {}: {error}", self.name.display()),
+        })?;
         self.keep = true;
         Ok(())
+    }
+
+    /// A second name is only given where nothing has it, so that of two runs at once just one does.
+    fn put_new(&self) -> io::Result<()> {
+        match fs::hard_link(&self.temporary, &self.target) {
+            Ok(()) => {
+                let _ = fs::remove_file(&self.temporary);
+                Ok(())
+            }
+            // Not every file system has links.
+            Err(error) if error.kind() != ErrorKind::AlreadyExists && !files::exists(&self.target) => {
+                fs::rename(&self.temporary, &self.target)
+            }
+            Err(error) => Err(error),
+        }
     }
 
     /// From now on the temporary file stays even if it cannot get its name.
@@ -196,11 +214,7 @@ pub fn link(path: &Path, second: &Path, progress: &mut Progress) -> Result<(), S
 
 fn copy(path: &Path, second: &Path, progress: &mut Progress) -> Result<(), String> {
     let bytes = files::read(path, u64::MAX - 1)?;
-    let mut copy = Pending::write(second, Rights::of(path, 0o600), &[&bytes], progress)?;
-    if files::exists(second) {
-        return Err(format!("cannot write {}: it is already there", second.display()));
-    }
-    copy.put()
+    Pending::write(second, Rights::of(path, 0o600), &[&bytes], progress)?.put(false)
 }
 
 #[cfg(test)]
@@ -228,8 +242,8 @@ mod tests {
         fs::set_permissions(&one, Permissions::from_mode(0o640)).unwrap();
         copy(&one, &two, &mut Progress::quiet()).unwrap();
         assert_eq!((fs::read(&two).unwrap(), files::mode(&two)), (b"old".to_vec(), 0o640));
-        assert!(copy(&one, &two, &mut Progress::quiet()).unwrap_err().contains("already there"));
-        assert!(link(&one, &two, &mut Progress::quiet()).unwrap_err().contains("already there"));
+        assert!(copy(&one, &two, &mut Progress::quiet()).unwrap_err().contains("come into being meanwhile"));
+        assert!(link(&one, &two, &mut Progress::quiet()).unwrap_err().contains("come into being meanwhile"));
         assert_eq!(fs::read_dir(&folder).unwrap().count(), 2);
         fs::remove_dir_all(&folder).unwrap();
     }

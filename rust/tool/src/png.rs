@@ -34,7 +34,7 @@ pub fn read(bytes: &[u8], work: &str, progress: &mut Progress) -> Result<Sheet, 
     let chunks = reader.read(&mut pixels, &mut |done, total| progress.tell(work, done, total)).map_err(damaged)?;
     check_chunks(&chunks).map_err(damaged)?;
     let surface = Surface { width: header.width, height: header.height, pixels };
-    Ok(Sheet { surface, deep: false, extras: extras(chunks) })
+    Ok(Sheet { surface, deep: false, extras: extras(chunks, header.grey) })
 }
 
 /// The bytes of a file. The same sheet gives the same bytes.
@@ -76,20 +76,22 @@ fn check_chunks(chunks: &[Chunk]) -> Result<(), String> {
     Ok(())
 }
 
-/// Whether a chunk is carried on. PNG calls those safe to copy where pixels have changed whose last letter is small.
-fn is_carried(chunk: &Chunk) -> bool {
-    COLOURS.contains(&&chunk.name) || chunk.name[3].is_ascii_lowercase()
+/// Whether a chunk is carried on. PNG calls those safe to copy where pixels have changed whose last letter is small. A
+/// profile of grey pixels does not fit the colours that are written.
+fn is_carried(chunk: &Chunk, grey: bool) -> bool {
+    let fits = !(grey && chunk.name == *b"iCCP");
+    fits && (COLOURS.contains(&&chunk.name) || chunk.name[3].is_ascii_lowercase())
 }
 
 /// Takes the resolution out of the chunks, if it is one that BMP files can say, too.
-fn extras(chunks: Vec<Chunk>) -> Extras {
+fn extras(chunks: Vec<Chunk>, grey: bool) -> Extras {
     let resolution = chunks.iter().find_map(resolution);
-    let (mut carried, others): (Vec<Chunk>, Vec<Chunk>) = chunks.into_iter().partition(is_carried);
+    let (mut carried, others): (Vec<Chunk>, Vec<Chunk>) = chunks.into_iter().partition(|chunk| is_carried(chunk, grey));
     if resolution.is_some() {
         carried.retain(|chunk| chunk.name != *b"pHYs");
     }
     let missed = others.iter().filter(|chunk| !OLD_FORM.contains(&&chunk.name));
-    let dropped = missed.map(|chunk| chunk_named(&chunk.name)).collect();
+    let dropped = missed.map(|chunk| meaning(&chunk.name)).collect();
     Extras { resolution, chunks: carried, dropped }
 }
 
@@ -117,13 +119,9 @@ pub fn meaning(name: &[u8; 4]) -> String {
         b"pHYs" => "the pixels' shape",
         b"eXIf" => "the Exif data",
         b"tEXt" | b"zTXt" | b"iTXt" => return "texts (tEXt, zTXt, iTXt)".to_string(),
-        _ => return chunk_named(name),
+        _ => return format!("chunk {}", String::from_utf8_lossy(name)),
     };
     format!("{meaning} ({})", String::from_utf8_lossy(name))
-}
-
-fn chunk_named(name: &[u8; 4]) -> String {
-    format!("chunk {}", String::from_utf8_lossy(name))
 }
 
 #[cfg(test)]

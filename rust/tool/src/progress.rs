@@ -1,6 +1,6 @@
-//! Says on standard error how far the work is, once it has taken a second and then about once a second.
+//! Says on a terminal how far the work is, once it has taken a second and then about once a second.
 
-use std::io::{self, Write};
+use std::io::{self, IsTerminal, Write};
 use std::time::{Duration, Instant};
 
 const PAUSE: Duration = Duration::from_secs(1);
@@ -12,7 +12,7 @@ pub struct Progress {
 
 impl Progress {
     pub fn new() -> Progress {
-        Progress { last: Instant::now(), quiet: false }
+        Progress { last: Instant::now(), quiet: !io::stderr().is_terminal() }
     }
 
     /// One that never speaks, for work inside tests.

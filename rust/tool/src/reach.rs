@@ -75,17 +75,16 @@ pub fn reach(bounds: [i32; 4], target: Area, clip: Area) -> Result<u64, Nothing>
 }
 
 impl Nothing {
-    /// In words, with the numbers that show it.
-    pub fn words(self, bounds: [i32; 4], target: Area, clip: Area) -> String {
+    /// In words, with the numbers that show it. `clip` is what the clip is called.
+    pub fn words(self, bounds: [i32; 4], target: Area, clip: &str) -> String {
         let [left, top, right, bottom] = bounds;
         let bounds = format!("Bounds {left}, {top}, {right}, {bottom}");
-        let clip = format!("{}, {}, {}, {}", clip.left, clip.top, clip.right, clip.bottom);
         match self {
             Nothing::NoClip => "the clip holds no pixel of the sheet".to_string(),
             Nothing::BoundsInverted => format!("its {bounds} are inverted, so they meet nothing"),
-            Nothing::BoundsOutside => format!("its {bounds} lie outside the clip {clip}"),
+            Nothing::BoundsOutside => format!("its {bounds} lie outside {clip}"),
             Nothing::TargetOutside => format!(
-                "its target (columns {} to {}, rows {} to {}) lies outside the clip {clip}",
+                "its target (columns {} to {}, rows {} to {}) lies outside {clip}",
                 target.left,
                 target.right - 1,
                 target.top,

@@ -64,6 +64,11 @@ pub fn draws_otherwise(kind: u32) -> bool {
     matches!(kind, 2..=8 | 15 | 41..=47 | 53..=56 | 62..=64 | 71..=74 | 83..=92 | 96 | 97 | 102 | 103 | 105 | 108 | 118)
 }
 
+/// Those of them that a path gathers while it is under way: lines, curves, closed shapes, text. The others draw at once.
+pub fn is_gathered(kind: u32) -> bool {
+    matches!(kind, 2..=8 | 41..=47 | 54..=56 | 83..=92 | 96 | 97 | 108)
+}
+
 /// Whether MS-EMF gives this number to a type.
 pub fn is_known(kind: u32) -> bool {
     (kind as usize).checked_sub(1).and_then(|at| NAMES.get(at)).is_some_and(|name| !name.is_empty())
@@ -117,7 +122,10 @@ mod tests {
         {
             let kind = NAMES.iter().position(|name| *name == name_of).unwrap() as u32 + 1;
             assert!(draws_otherwise(kind), "{name_of}");
+            let at_once = ["SETPIXELV", "FILLPATH", "PAINTRGN", "GRADIENTFILL"];
+            assert_eq!(is_gathered(kind), !at_once.contains(&name_of), "{name_of}");
         }
+        assert!((1..=200).all(|kind| draws_otherwise(kind) || !is_gathered(kind)));
         for name_of in ["SETBRUSHORGEX", "MOVETOEX", "SAVEDC", "SELECTOBJECT", "BEGINPATH", "COMMENT", "EXTCREATEPEN"] {
             let kind = NAMES.iter().position(|name| *name == name_of).unwrap() as u32 + 1;
             assert!(!draws_otherwise(kind), "{name_of}");

@@ -12,10 +12,9 @@ use crate::reach::{reach, Area};
 use crate::record_types::{self, EOF, HEADER};
 use crate::words;
 
-const BEGINPATH: u32 = 59;
-const ENDPATH: u32 = 60;
-const ABORTPATH: u32 = 68;
 const COMMENT: u32 = 70;
+/// The brush that is used where none is given.
+pub const BLACK: u32 = 0;
 /// "EMF+", at byte 12 of a comment that holds EMF+ records.
 const EMF_PLUS: u32 = 0x2B46_4D45;
 
@@ -46,11 +45,12 @@ impl Listed<'_> {
         format!("record {} at offset {}: {}", self.number, self.record.offset, record_types::named(self.record.kind))
     }
 
-    /// How many pixels a play of it counts under this cut clip, or why none. None where the record is too short to tell.
-    pub fn reach(&self, clip: Area) -> Option<Result<u64, String>> {
+    /// How many pixels a play of it counts under this cut clip, which is called so, or why none. None where the record is
+    /// too short to tell.
+    pub fn reach(&self, clip: Area, called: &str) -> Option<Result<u64, String>> {
         let facts = Facts::read(self.record.bytes);
         let (bounds, target) = (facts.bounds?, Area::of(facts.target_rectangle()?));
-        Some(reach(bounds, target, clip).map_err(|nothing| nothing.words(bounds, target, clip)))
+        Some(reach(bounds, target, clip).map_err(|nothing| nothing.words(bounds, target, called)))
     }
 }
 
@@ -68,8 +68,9 @@ pub struct Survey<'a> {
     pub damage: Option<Damage>,
 }
 
-/// Walks the file. `brush` is the colour that plays will use; `wanted` says which numbers are to be played.
-pub fn survey(bytes: &[u8], brush: u32, wanted: impl Fn(usize) -> bool) -> Survey<'_> {
+/// Walks the file. `brush` is the colour that plays are told to use, where they are; `wanted` says which numbers are to be
+/// played.
+pub fn survey(bytes: &[u8], brush: Option<u32>, wanted: impl Fn(usize) -> bool) -> Survey<'_> {
     let mut seen = Seen::new(brush);
     let (mut header, mut damage) = (None, None);
     let mut walk = emf::walk(bytes);
@@ -77,8 +78,8 @@ pub fn survey(bytes: &[u8], brush: u32, wanted: impl Fn(usize) -> bool) -> Surve
         match step {
             Ok(record) if record_types::is_bitmap(record.kind) => seen.bitmap(record, &wanted),
             Ok(record) if record.offset == 0 => header = EmfHeader::read(record.bytes),
-            Ok(record) if record.kind != HEADER && record.kind != EOF => seen.other(&record),
-            Ok(_) => {}
+            Ok(record) if record.kind == EOF => {}
+            Ok(record) => seen.other(&record),
             Err(found) => damage = Some(found),
         }
     }
@@ -96,31 +97,32 @@ pub fn survey(bytes: &[u8], brush: u32, wanted: impl Fn(usize) -> bool) -> Surve
 
 /// What the walk has come by.
 struct Seen<'a> {
-    brush: u32,
+    brush: Option<u32>,
     device: Device,
     records: Vec<Listed<'a>>,
     /// Records that set what is not honoured: in words, and the bitmap records at which it is in force.
     settings: BTreeMap<At, (String, Vec<usize>)>,
+    /// Bitmap records that use a brush where nobody has named one.
+    without_brush: Vec<usize>,
     skipped: BTreeMap<u32, Vec<usize>>,
     drawing: BTreeMap<u32, u64>,
     unknown: u64,
     emf_plus: u64,
-    in_path: bool,
     others: u64,
 }
 
 impl<'a> Seen<'a> {
-    fn new(brush: u32) -> Seen<'a> {
+    fn new(brush: Option<u32>) -> Seen<'a> {
         Seen {
             brush,
             device: Device::new(),
             records: Vec::new(),
             settings: BTreeMap::new(),
+            without_brush: Vec::new(),
             skipped: BTreeMap::new(),
             drawing: BTreeMap::new(),
             unknown: 0,
             emf_plus: 0,
-            in_path: false,
             others: 0,
         }
     }
@@ -149,8 +151,17 @@ impl<'a> Seen<'a> {
         if let Some((at, words)) = self.device.stretch().filter(|_| stretches(&facts)) {
             found.push((at, format!("{words} is not honoured; pixels are left out or repeated")));
         }
-        if let Some((at, words)) = self.other_brush().filter(|_| facts.uses_brush()) {
-            found.push((at, words));
+        if let Some(at) = self.device.adjustment().filter(|_| stretches(&facts)) {
+            found.push((at, "the adjustment of colours is not honoured".to_string()));
+        }
+        if let Some(at) = self.device.matching() {
+            found.push((at, "the matching of colours is not honoured".to_string()));
+        }
+        if facts.uses_brush() {
+            found.extend(self.other_brush());
+            if self.brush.is_none() && self.device.brush().is_none() {
+                self.without_brush.push(number);
+            }
         }
         for (at, words) in found {
             self.settings.entry(at).or_insert((words, Vec::new())).1.push(number);
@@ -159,7 +170,7 @@ impl<'a> Seen<'a> {
 
     /// The brush that the file selects, where it is not the one that is used.
     fn other_brush(&self) -> Option<(At, String)> {
-        let used = self.brush & 0xFF_FFFF;
+        let used = self.brush.unwrap_or(BLACK) & 0xFF_FFFF;
         match self.device.brush()? {
             (_, Brush::Solid(colour)) if colour == used => None,
             (at, Brush::Solid(colour)) => Some((
@@ -172,13 +183,14 @@ impl<'a> Seen<'a> {
 
     fn other(&mut self, record: &Record) {
         self.others += 1;
+        let gathered = |kind| self.device.in_path() && record_types::is_gathered(kind);
         match record.kind {
-            BEGINPATH => self.in_path = true,
-            ENDPATH | ABORTPATH => self.in_path = false,
             COMMENT => self.emf_plus += u64::from(u32_at(record.bytes, 12) == Some(EMF_PLUS)),
-            // Inside a path nothing is drawn yet.
-            kind if record_types::draws_otherwise(kind) && !self.in_path => *self.drawing.entry(kind).or_default() += 1,
-            kind => self.unknown += u64::from(!record_types::is_known(kind)),
+            kind if record_types::draws_otherwise(kind) && !gathered(kind) => {
+                *self.drawing.entry(kind).or_default() += 1
+            }
+            // A header stands at the front only.
+            kind => self.unknown += u64::from(kind == HEADER || !record_types::is_known(kind)),
         }
         self.device.take(record);
     }
@@ -197,6 +209,10 @@ impl<'a> Seen<'a> {
             let (name, records) = (record_types::name(at.kind), words::records(numbers));
             warnings.push(format!("offset {}: {name}, in force at {records}: {words}", at.offset));
         }
+        if !self.without_brush.is_empty() {
+            let records = words::records(&self.without_brush);
+            warnings.push(format!("the file selects no brush for {records}, and without --brush {BLACK:06X} is used"));
+        }
         if !self.drawing.is_empty() {
             let each = |(kind, count): (&u32, &u64)| format!("{} {}", record_types::name(*kind), words::count(*count));
             let count = words::things(self.drawing.values().sum(), "record");
@@ -208,7 +224,8 @@ impl<'a> Seen<'a> {
             warnings.push(format!("{count} not played: what stands only there is not drawn"));
         }
         if self.unknown > 0 {
-            warnings.push(format!("{} of unknown types not played", words::things(self.unknown, "record")));
+            warnings
+                .push(format!("{} of unknown types or out of place not played", words::things(self.unknown, "record")));
         }
         warnings
     }

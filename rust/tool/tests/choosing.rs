@@ -45,6 +45,8 @@ fn only_and_skip() {
         .run("play sheet.png all.emf -o o.png --only 5")
         .fails("all.emf: there is no record 5: the file has 4 bitmap");
     folder.run("play sheet.png all.emf -o o.png --skip 0").fails("--skip needs numbers of records");
+    folder.run("play sheet.png all.emf -o o.png --only 1 --skip 1").fails("--only and --skip leave no record to play");
+    folder.run("play sheet.png mask.emf -o o.png --skip 2").fails("there is no record 2: the file has 1 bitmap record");
     folder.run("play sheet.png all.emf mask.emf -o o.png --only 1").fails("number the records of one EMF file");
     assert!(!folder.has("o.png"));
 }
@@ -80,6 +82,9 @@ fn a_dry_run_sees_a_full_journal() {
     let ended = folder.run("play sheet.bmp a.emf --dry-run --journal j").expect(1);
     assert!(ended.out.contains("21,299,202 journal records needed"), "{ended:?}");
     assert!(ended.out.ends_with("journal j has 20,000,000 records free\n"), "{ended:?}");
+    let words = "status 14: the journal has no room for these plays: it needs 21,299,202 records, and 20,000,000 of \
+                 20,000,000 are free. Nothing was written. What helps: draw less with";
+    assert!(ended.err.contains(words), "{ended:?}");
 }
 
 #[test]

@@ -284,7 +284,15 @@ fn a_full_journal_is_an_error() {
     assert!(ended
         .err
         .contains("it needs 10,649,601 records, and 9,350,399 of 20,000,000 are free. Nothing was written"));
-    assert!(ended.err.contains("--new-journal"));
+    // A new journal would have no more room.
+    assert!(ended.err.ends_with("What helps: draw less with --clip, --only or --skip, or play without --journal\n"));
     assert_eq!(folder.names(), ["a.emf", "sheet.bmp"]);
     folder.run("play sheet.bmp a.emf -o out.bmp").expect(0);
+    folder.run("play sheet.bmp a.emf -o once.bmp --journal j --only 1").expect(0);
+    let ended = folder.run("play once.bmp a.emf -o twice.bmp --journal j --only 1").expect(1);
+    assert!(ended
+        .err
+        .contains("What helps: take plays back with undo, begin another journal with --new-journal (this"));
+    let ended = folder.run("play once.bmp a.emf --dry-run --journal j --only 1").expect(1);
+    assert!(ended.err.contains("status 14: the journal has no room for these plays: it needs 10,649,601 records"));
 }

@@ -316,7 +316,7 @@ fn the_same_facts_as_json() {
                 \"Frame\": {\"left\": 0, \"top\": 0, \"right\": 4095, \"bottom\": 4095}, \
                 \"Device\": {\"width\": 4096, \"height\": 4096}, \"Millimeters\": {\"width\": 1000, \"height\": 1000}, \
                 \"description\": []}, \"records\": [\n{\"number\": 1, \"offset\": 88, \
-                \"type\": 114, \"type_name\": \"EMR_ALPHABLEND\", \"Size\": 152, \
+                \"type\": 114, \"type_name\": \"EMR_ALPHABLEND\", \"Size\": 152, \"fixed_part\": 108, \
                 \"Bounds\": {\"left\": 0, \"top\": 0, \"right\": 4095, \"bottom\": 4095}, \
                 \"target\": {\"x\": 3, \"y\": 4, \"cx\": 20, \"cy\": 10}, \
                 \"source_rectangle\": {\"x\": 0, \"y\": 0, \"cx\": 1, \"cy\": 1}, \

@@ -372,11 +372,12 @@ fn owners_are_kept() {
         // The tool lies where only root may start it.
         return;
     };
-    assert!(ended.expect(0).err.contains("sheet.png: its owner or group could not be kept\n"));
+    let told = "lacrumont: warning: sheet.png: its owner or group could not be kept\n";
+    assert_eq!(ended.expect(3).err, told);
     assert_eq!(owner("sheet.png"), (65_534, 65_534));
     chown(folder.path("sheet.png"), Some(0), Some(0)).unwrap();
     set_mode(&folder, "sheet.png", 0o676);
-    run("play sheet.png a.emf -o sheet.png --force").unwrap().expect(0);
+    run("play sheet.png a.emf -o sheet.png --force").unwrap().expect(3);
     assert_eq!(mode(&folder, "sheet.png"), 0o666);
     set_mode(&folder, "out.png", 0o644);
     run("play sheet.png a.emf -o out.png --force").unwrap().fails("out.png is read-only and is not replaced");

@@ -1,6 +1,7 @@
 //! Options and file names out of a command's arguments.
 
 use std::ffi::{OsStr, OsString};
+use std::os::unix::ffi::OsStrExt;
 use std::path::PathBuf;
 
 use face::Clip;
@@ -54,9 +55,11 @@ impl Known {
 
     /// An option and its value in one, as in --clip=0,0,9,9.
     fn joined(&self, argument: &OsStr) -> Option<(&'static str, OsString)> {
-        let (name, value) = argument.to_str()?.split_once('=')?;
-        let option = self.valued.iter().find(|option| **option == name && name.starts_with("--"))?;
-        Some((option, value.into()))
+        // A value need not be Unicode.
+        let bytes = argument.as_bytes();
+        let (name, value) = bytes.split_at(bytes.iter().position(|byte| *byte == b'=')?);
+        let option = self.valued.iter().find(|option| option.as_bytes() == name && name.starts_with(b"--"))?;
+        Some((option, OsStr::from_bytes(&value[1..]).into()))
     }
 
     fn add(&self, parsed: &mut Arguments, option: &'static str, value: OsString) -> Result<(), String> {

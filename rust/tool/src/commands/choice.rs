@@ -2,6 +2,8 @@
 
 use std::collections::BTreeSet;
 
+use crate::words;
+
 #[derive(Debug, Default, PartialEq, Eq)]
 pub struct Choice {
     only: Option<BTreeSet<usize>>,
@@ -28,7 +30,10 @@ impl Choice {
     /// A number that no record has is a mistake.
     pub fn check(&self, records: usize) -> Result<(), String> {
         match self.only.iter().flatten().chain(&self.skip).find(|number| **number > records) {
-            Some(number) => Err(format!("there is no record {number}: the file has {records} bitmap records")),
+            Some(number) => {
+                let records = words::things(records as u64, "bitmap record");
+                Err(format!("there is no record {number}: the file has {records}"))
+            }
             None => Ok(()),
         }
     }

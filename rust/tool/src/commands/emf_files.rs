@@ -16,7 +16,10 @@ pub fn read(path: &Path) -> Result<Vec<u8>, String> {
     }
 }
 
-/// What is said of a damaged file.
+/// What is said of a damaged file, or of one that is none.
 pub fn damaged(path: &Path, damage: &Damage) -> String {
-    format!("{} is damaged: {damage}", path.display())
+    match damage {
+        Damage::NoHeader { .. } | Damage::NoSignature => format!("{}: {damage}", path.display()),
+        _ => format!("{} is damaged: {damage}", path.display()),
+    }
 }

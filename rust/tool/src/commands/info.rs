@@ -15,7 +15,7 @@ use crate::emf_header::EmfHeader;
 use crate::facts::Facts;
 use crate::library::{self, Which};
 use crate::reach::Area;
-use crate::survey::{survey, Fate, Listed};
+use crate::survey::{survey, Fate, Listed, BLACK};
 use crate::{reasons, words};
 
 const KNOWN: Known = Known { command: "info", valued: &[], flags: &["--json"] };
@@ -126,8 +126,8 @@ fn list(path: &Path, listing: &mut dyn Listing, out: &mut Out) -> u8 {
             return ERROR;
         }
     };
-    // Without a brush that is given, a play uses black.
-    let survey = survey(&bytes, 0, |_| true);
+    // As if a play were told to use the brush that it uses without being told.
+    let survey = survey(&bytes, Some(BLACK), |_| true);
     listing.file(path, bytes.len(), survey.header.as_ref(), out);
     let mut summary = Summary { others: survey.others, warnings: survey.warnings, ..Summary::default() };
     for listed in &survey.records {
@@ -161,7 +161,7 @@ fn examine(listed: &Listed) -> Entry {
 /// Why a record draws nothing even on the largest sheet.
 fn nowhere(listed: &Listed) -> Option<String> {
     let largest = Area::of([0, 0, MOST_SIDE.into(), MOST_SIDE.into()]);
-    listed.reach(largest)?.err()
+    listed.reach(largest, &format!("every sheet, whose sides are at most {}", words::count(MOST_SIDE.into())))?.err()
 }
 
 impl Summary {

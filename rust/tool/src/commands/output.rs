@@ -15,9 +15,18 @@ pub struct Out {
     failure: Option<io::Error>,
 }
 
+/// One line, whatever a file's name may hold: its control characters are escaped.
+fn one_line(words: &str) -> String {
+    let escaped = |character: char| match character.is_control() {
+        true => character.escape_default().to_string(),
+        false => character.to_string(),
+    };
+    words.chars().map(escaped).collect::<String>() + "\n"
+}
+
 impl Out {
     pub fn line(&mut self, line: &str) {
-        self.text(&format!("{line}\n"));
+        self.text(&one_line(line));
     }
 
     pub fn text(&mut self, text: &str) {
@@ -40,5 +49,5 @@ impl Out {
 /// A line on standard error.
 pub fn complain(words: &str) {
     // A closed standard error leaves nobody to tell.
-    let _ = writeln!(io::stderr(), "lacrumont: {words}");
+    let _ = io::stderr().write_all(one_line(&format!("lacrumont: {words}")).as_bytes());
 }

@@ -1,6 +1,7 @@
 //! `lacrumont play`: the files' bitmap records onto the sheet, in order.
 
 use std::ffi::OsString;
+use std::fs::File;
 use std::path::{Path, PathBuf};
 
 use face::Clip;
@@ -17,7 +18,7 @@ use crate::journal::{Journal, Refusal};
 use crate::lock::Lock;
 use crate::progress::Progress;
 use crate::sheet::Sheet;
-use crate::survey::{survey, Fate, Listed};
+use crate::survey::{survey, Fate, Listed, BLACK};
 use crate::{files, reasons, sheet_files, words};
 
 const KNOWN: Known = Known {
@@ -36,15 +37,17 @@ nothing is written.
 
   -o OUT           the file to write, .png or .bmp
   --clip L,T,R,B   only pixels inside are drawn; right and bottom are not included; without it, the whole sheet
-  --brush RRGGBB   the brush's colour, six hexadecimal digits; without it, 000000
+  --brush RRGGBB   the brush's colour, six hexadecimal digits; without it 000000, which is warned about where a record
+                   uses it
   --only N[,N]     plays only these of the file's bitmap records, numbered from 1 as info lists them
   --skip N[,N]     leaves these out; both options need a single EMF file
   --strict         all or nothing: where a wanted record is refused or skipped, nothing is written
-  --dry-run        says what would be drawn and how many journal records it takes, and writes nothing; needs no -o
+  --dry-run        says what would be drawn and how many journal records it takes, and writes nothing; needs no -o.
+                   What a killed run left is set right all the same
   --journal FILE   keeps every old pixel in FILE, so that undo can take the plays back. A journal that is there and
                    belongs to SHEET is continued; without one it is begun. FILE.lock is there while a run has it
   --new-journal    begins a journal; one that is there is kept beside it as FILE.1, FILE.2 and so on
-  --no-wait        an error if another run has the journal; without it, waits for that run
+  --no-wait        an error if another run has the journal or writes OUT; without it, waits for that run
   --force          writes over OUT if it is there and not read-only
 
 The last line tells of all bitmap records: played; drew nothing (accepted, but Bounds or target miss the clip);
@@ -63,7 +66,7 @@ struct Asked {
     out: Option<PathBuf>,
     journal: Option<PathBuf>,
     clip: Option<Clip>,
-    brush: u32,
+    brush: Option<u32>,
     choice: Choice,
     force: bool,
     strict: bool,
@@ -83,6 +86,7 @@ pub fn run(arguments: &[OsString], out: &mut Out) -> Result<u8, String> {
 
     // Before the sheet is read, so that no other run writes it or the journal before this one has.
     let lock = asked.lock()?;
+    let held_out = recovery::hold(asked.out.as_deref().filter(|_| !asked.dry_run), asked.wait)?;
     let mut progress = Progress::new();
     let mut sheet = sheet_files::load(&asked.sheet, &mut progress)?;
     let (journal, before) = match &asked.journal {
@@ -103,7 +107,8 @@ pub fn run(arguments: &[OsString], out: &mut Out) -> Result<u8, String> {
 
     let clip = asked.clip.unwrap_or_else(|| whole(&sheet));
     let scratch = (asked.journal.is_none() || asked.dry_run).then(Journal::new);
-    let mut playing = Playing { sheet: &mut sheet, journal, scratch, clip, brush: asked.brush, needed: 0, tally, out };
+    let (brush, held) = (asked.brush.unwrap_or(BLACK), journal.used());
+    let mut playing = Playing { sheet: &mut sheet, journal, held, scratch, clip, brush, needed: 0, tally, out };
     for (done, (path, listed)) in records.iter().enumerate() {
         playing.play(path, listed)?;
         progress.tell("playing", done + 1, records.len());
@@ -111,8 +116,9 @@ pub fn run(arguments: &[OsString], out: &mut Out) -> Result<u8, String> {
     if asked.dry_run {
         return playing.end_dry(asked.journal.as_deref());
     }
-    let Playing { sheet, journal, tally, out, .. } = playing;
-    asked.write(sheet, &journal, before, lock, &mut progress)?;
+    let Playing { sheet, journal, mut tally, out, .. } = playing;
+    let warnings = asked.write(sheet, &journal, before, held_out, lock, &mut progress)?;
+    warnings.iter().for_each(|words| tally.warn(words));
     asked.end(&journal, tally, out)
 }
 
@@ -128,7 +134,7 @@ impl Asked {
             out: parsed.path("-o"),
             journal: parsed.path("--journal"),
             clip: parsed.text("--clip").map(|text| arguments::clip(&text)).transpose()?,
-            brush: parsed.text("--brush").map_or(Ok(0), |text| arguments::brush(&text))?,
+            brush: parsed.text("--brush").map(|text| arguments::brush(&text)).transpose()?,
             choice: Choice::parse(parsed.text("--only").as_deref(), parsed.text("--skip").as_deref())?,
             force: parsed.has("--force"),
             strict: parsed.has("--strict"),
@@ -181,6 +187,9 @@ impl Asked {
                 return Err(emf_files::damaged(path, damage));
             }
             self.choice.check(survey.records.len()).map_err(|words| format!("{}: {words}", path.display()))?;
+            if self.choice.is_given() && survey.records.iter().all(|listed| listed.fate == Fate::LeftOut) {
+                return Err(KNOWN.wrong("--only and --skip leave no record to play"));
+            }
             for listed in survey.records {
                 match listed.fate {
                     Fate::Played => records.push((path.as_path(), listed)),
@@ -215,11 +224,12 @@ impl Asked {
         sheet: &Sheet,
         journal: &Journal,
         before: Before,
+        held: Option<File>,
         mut lock: Option<Lock>,
         progress: &mut Progress,
-    ) -> Result<(), String> {
-        let Some(out) = &self.out else { return Ok(()) };
-        let picture = Picture { sheet, from: &self.sheet, out, force: self.force };
+    ) -> Result<Vec<String>, String> {
+        let Some(out) = &self.out else { return Ok(Vec::new()) };
+        let picture = Picture { sheet, from: &self.sheet, out, force: self.force, held };
         let file = self.journal.as_deref().zip(lock.as_mut());
         write_both(picture, file.map(|(path, lock)| JournalFile { journal, path, before, lock }), progress)
     }

@@ -5,7 +5,7 @@ use std::path::Path;
 use face::constants::{MOST_JOURNAL, NO_ROOM};
 use face::Clip;
 
-use super::output::{Out, ERROR};
+use super::output::Out;
 use super::tally::Tally;
 use crate::journal::Journal;
 use crate::reach::Area;
@@ -16,6 +16,8 @@ use crate::words;
 pub struct Playing<'a> {
     pub sheet: &'a mut Sheet,
     pub journal: Journal,
+    /// Records that the journal had in use before.
+    pub held: u64,
     /// For plays that are not kept; None where the journal keeps them.
     pub scratch: Option<Journal>,
     pub clip: Clip,
@@ -60,7 +62,8 @@ impl Playing<'_> {
 
     fn reach(&self, listed: &Listed) -> Option<Result<u64, String>> {
         let surface = &self.sheet.surface;
-        listed.reach(Area::cut(self.clip, surface.width, surface.height))
+        let clip = Area::cut(self.clip, surface.width, surface.height);
+        listed.reach(clip, &format!("the clip {}, {}, {}, {}", clip.left, clip.top, clip.right, clip.bottom))
     }
 
     fn free(&self) -> u64 {
@@ -69,13 +72,20 @@ impl Playing<'_> {
 
     fn full(&self, place: &str, listed: &Listed) -> String {
         let wanted = self.reach(listed).and_then(Result::ok).unwrap_or(0) + 1;
+        format!("{place}: {}", self.no_room("this play", wanted))
+    }
+
+    /// Status 14: what is wanted and free, and what to do.
+    fn no_room(&self, what: &str, wanted: u64) -> String {
+        let (wanted, free, all) = (words::count(wanted), words::count(self.free()), words::count(MOST_JOURNAL as u64));
+        // In an empty journal there is nothing to take back, and another one has no more room.
+        let others = match self.held {
+            0 => "",
+            _ => "take plays back with undo, begin another journal with --new-journal (this one is kept), ",
+        };
         format!(
-            "{place}: status {NO_ROOM}: the journal has no room for this play: it needs {} records, and {} of {} are free. \
-             Nothing was written. Take plays back with undo, draw less with --clip or --skip, begin another journal with \
-             --new-journal (this one is kept), or play without --journal",
-            words::count(wanted),
-            words::count(self.free()),
-            words::count(MOST_JOURNAL as u64)
+            "status {NO_ROOM}: the journal has no room for {what}: it needs {wanted} records, and {free} of {all} are free. \
+             Nothing was written. What helps: {others}draw less with --clip, --only or --skip, or play without --journal"
         )
     }
 
@@ -88,6 +98,9 @@ impl Playing<'_> {
         };
         let free = self.free();
         self.out.line(&format!("journal {} has {} free", path.display(), words::things(free, "record")));
-        Ok(if self.needed > free { ERROR } else { self.tally.code() })
+        if self.needed > free {
+            return Err(self.no_room("these plays", self.needed));
+        }
+        Ok(self.tally.code())
     }
 }

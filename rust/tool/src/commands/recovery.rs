@@ -1,6 +1,6 @@
 //! The journal's lock as a command takes it, and what a killed run left behind.
 
-use std::fs;
+use std::fs::{self, File};
 use std::os::unix::fs::MetadataExt;
 use std::path::{Path, PathBuf};
 
@@ -14,7 +14,7 @@ const NOT_WRITTEN: &str = "it had not written its results: all files are as they
 
 /// Takes the journal's lock and sets right what a run that was cut short left. `out` is the file this run will write.
 pub fn lock(journal: &Path, out: Option<&Path>, wait: bool) -> Result<Lock, NoLock> {
-    let (mut lock, left) = Lock::take(journal, |process| busy(journal, process, wait))?;
+    let (mut lock, left) = Lock::take(journal, |process| busy_with_journal(journal, process, wait))?;
     if let Some(left) = left {
         recover(journal, &left, &mut lock)?;
     }
@@ -22,13 +22,23 @@ pub fn lock(journal: &Path, out: Option<&Path>, wait: bool) -> Result<Lock, NoLo
     Ok(lock)
 }
 
-fn busy(journal: &Path, process: Option<u32>, wait: bool) -> Result<(), String> {
+/// Holds OUT where there is one: a run that replaces it reads the sheet only after every other has done so.
+pub fn hold(out: Option<&Path>, wait: bool) -> Result<Option<File>, String> {
+    let Some(out) = out else { return Ok(None) };
+    files::hold(out, || busy("another run", &format!("writes {}", out.display()), wait))
+}
+
+fn busy_with_journal(journal: &Path, process: Option<u32>, wait: bool) -> Result<(), String> {
     let run = format!("another run{}", process.map_or(String::new(), |process| format!(" (process {process})")));
+    busy(&run, &format!("has the journal {}", journal.display()), wait)
+}
+
+fn busy(run: &str, does: &str, wait: bool) -> Result<(), String> {
     if wait {
-        complain(&format!("waiting for {run} that has the journal {}", journal.display()));
+        complain(&format!("waiting for {run} that {does}"));
         return Ok(());
     }
-    Err(format!("{run} has the journal {}; without --no-wait this one would wait for it", journal.display()))
+    Err(format!("{run} {does}; without --no-wait this one would wait for it"))
 }
 
 /// A run that was cut short is taken to its end if it had begun to give its files their names, and else back.
@@ -61,7 +71,8 @@ fn settle(journal: &Path, out: &Path, intent: &Intent, lock: &mut Lock) -> Resul
     if strange(&intent.picture) || strange(&intent.journal) {
         return Err(damaged(journal));
     }
-    if files::exists(&intent.picture) {
+    // A new picture has both names for a moment.
+    if files::exists(&intent.picture) && !is_one_file(&intent.picture, out) {
         // From here on the intent is void, so that a kill while the files go leaves no doubt.
         lock.begin(Some(out))?;
         return take_back(journal, intent);

@@ -1,6 +1,6 @@
 //! The files that a play or an undo leaves.
 
-use std::fs;
+use std::fs::{self, File};
 use std::path::Path;
 
 use super::output::complain;
@@ -30,6 +30,8 @@ pub struct Picture<'a> {
     pub from: &'a Path,
     pub out: &'a Path,
     pub force: bool,
+    /// Held as long as it is replaced.
+    pub held: Option<File>,
 }
 
 /// A journal and its file.
@@ -40,46 +42,45 @@ pub struct JournalFile<'a> {
     pub lock: &'a mut Lock,
 }
 
-/// Both files are written whole before either gets its name, so that a full disk changes neither.
-pub fn write_both(picture: Picture, journal: Option<JournalFile>, progress: &mut Progress) -> Result<(), String> {
-    let Picture { sheet, from, out, force } = picture;
+/// Both files are written whole before either gets its name, so that a full disk changes neither. Gives what is to be
+/// warned about.
+pub fn write_both(
+    picture: Picture,
+    journal: Option<JournalFile>,
+    progress: &mut Progress,
+) -> Result<Vec<String>, String> {
+    let Picture { sheet, from, out, force, held: _held } = picture;
     let mode = files::mode(from);
     let packed = sheet_files::packed(sheet, out, progress)?;
     // A journal of this name has a killed run to be set right first; its temporary file may be needed for that.
     if !files::exists(&files::with_ending(out, ".lock")) {
         sweep(out);
     }
-    let mut picture = write(out, Rights::of(out, mode), &[&packed], progress)?;
+    let mut picture = Pending::write(out, Rights::of(out, mode), &[&packed], progress)?;
     let Some(file) = journal else {
         files::check_free(out, force)?;
-        picture.put()?;
+        picture.put(force)?;
         let _ = files::sync_folder(picture.target());
-        return Ok(());
+        return Ok(picture.not_kept().into_iter().collect());
     };
     let rights = if file.before == Before::Kept { Rights::New(mode) } else { Rights::of(file.path, mode) };
     let (header, records) = file.journal.parts(sheet);
     sweep(file.path);
-    let journal = write(file.path, rights, &[&header, records], progress)?;
+    let journal = Pending::write(file.path, rights, &[&header, records], progress)?;
+    let warnings = picture.not_kept().into_iter().chain(journal.not_kept()).collect();
     files::check_free(out, force)?;
     files::check_replaceable(file.path)?;
     if file.before == Before::Absent && files::exists(file.path) {
         return Err(format!("{} has come into being meanwhile and is not written over", file.path.display()));
     }
-    give_names(picture, journal, file.before == Before::Kept, file.lock, progress)
-}
-
-fn write(path: &Path, rights: Rights, parts: &[&[u8]], progress: &mut Progress) -> Result<Pending, String> {
-    let pending = Pending::write(path, rights, parts, progress)?;
-    if !pending.owned() {
-        complain(&format!("{}: its owner or group could not be kept", path.display()));
-    }
-    Ok(pending)
+    give_names((picture, force), journal, file.before == Before::Kept, file.lock, progress)?;
+    Ok(warnings)
 }
 
 /// Gives both files their names. A kill at any moment leaves what the next run can take to its end or take back: the
 /// intent is on the disk before the first name is given, and the picture's name before the journal's is.
 fn give_names(
-    mut picture: Pending,
+    (mut picture, force): (Pending, bool),
     // Behind the picture, so that it is removed before it where nothing is put.
     mut journal: Pending,
     keep: bool,
@@ -98,14 +99,15 @@ fn give_names(
     if let Some(name) = &kept {
         pending::link(&target, name, progress)?;
     }
-    if let Err(words) = picture.put() {
+    if let Err(words) = picture.put(force) {
         if let Some(name) = &kept {
             let _ = fs::remove_file(name);
         }
         return Err(words);
     }
     let _ = files::sync_folder(picture.target());
-    if let Err(words) = journal.put() {
+    // Nobody else writes it meanwhile: the lock is held.
+    if let Err(words) = journal.put(true) {
         // The picture is there now, and only this journal can undo it.
         journal.keep();
         lock.leave();

@@ -26,7 +26,7 @@ be the sheet as the plays left it; if it is not, nothing is changed.
   --plays N        takes back N plays
   --all            takes back all plays
   --force          writes over OUT if it is there and not read-only
-  --no-wait        an error if another run has the journal; without it, waits for that run
+  --no-wait        an error if another run has the journal or writes OUT; without it, waits for that run
 
 Exit status: 0 all went well, 1 an error of files or use, 3 there are warnings.
 ";
@@ -45,7 +45,7 @@ pub fn run(arguments: &[OsString], out: &mut Out) -> Result<u8, String> {
     let force = parsed.has("--force");
     let asked = match (parsed.text("--plays"), parsed.has("--all")) {
         (Some(_), true) => return Err(KNOWN.wrong("--plays and --all cannot go together")),
-        (Some(text), false) => Some(plays(&text)?),
+        (Some(text), false) => Some(number_of_plays(&text)?),
         (None, true) => None,
         (None, false) => Some(1),
     };
@@ -61,25 +61,26 @@ pub fn run(arguments: &[OsString], out: &mut Out) -> Result<u8, String> {
     // Before the sheet is read, so that no other run writes it or the journal before this one has.
     let lock = recovery::lock(&journal_path, Some(&out_path), !parsed.has("--no-wait"));
     let mut lock = lock.map_err(|no| no.words)?;
+    let held = recovery::hold(Some(&out_path), !parsed.has("--no-wait"))?;
     let mut progress = Progress::new();
     let mut sheet = sheet_files::load(sheet_path, &mut progress)?;
     let mut journal =
         Journal::load(&journal_path, &sheet).map_err(|refusal| format!("{}. Nothing was changed", refusal.words()))?;
-    let held = journal.plays().unwrap_or(0);
+    let plays = journal.plays().unwrap_or(0);
     let name = journal_path.display();
-    if held == 0 {
+    if plays == 0 {
         return Err(format!("{name}: {}", words::numbered(NOTHING)));
     }
-    let count = asked.unwrap_or(held);
-    if count > held {
-        let held = words::things(held, "play");
+    let count = asked.unwrap_or(plays);
+    if count > plays {
+        let plays = words::things(plays, "play");
         return Err(format!(
-            "{name} holds {held}, fewer than the {} asked for. Nothing was changed",
+            "{name} holds {plays}, fewer than the {} asked for. Nothing was changed",
             words::count(count)
         ));
     }
     for done in 0..count {
-        let number = held - done;
+        let number = plays - done;
         let pixels = journal
             .undo(&mut sheet.surface)
             .map_err(|status| format!("{name}: play {number}: {}. Nothing was changed", words::numbered(status)))?;
@@ -87,22 +88,20 @@ pub fn run(arguments: &[OsString], out: &mut Out) -> Result<u8, String> {
         progress.tell("taking back", done as usize + 1, count as usize);
     }
     let lost = sheet_files::lost(&sheet, &out_path);
-    if let Some(lost) = &lost {
-        complain(&format!("warning: {lost}"));
-    }
-    let picture = Picture { sheet: &sheet, from: sheet_path, out: &out_path, force };
+    let picture = Picture { sheet: &sheet, from: sheet_path, out: &out_path, force, held };
     let file = JournalFile { journal: &journal, path: &journal_path, before: Before::Continued, lock: &mut lock };
-    write_both(picture, Some(file), &mut progress)?;
-    let left = words::things(held - count, "play");
+    let warnings = write_both(picture, Some(file), &mut progress)?;
+    let warned = lost.iter().chain(&warnings).map(|words| complain(&format!("warning: {words}"))).count() > 0;
+    let left = words::things(plays - count, "play");
     out.line(&format!(
         "{} taken back; wrote {}; journal {name} holds {left}",
         words::things(count, "play"),
         out_path.display()
     ));
-    Ok(if lost.is_some() { WARNED } else { FINE })
+    Ok(if warned { WARNED } else { FINE })
 }
 
-fn plays(text: &str) -> Result<u64, String> {
+fn number_of_plays(text: &str) -> Result<u64, String> {
     match text.parse() {
         Ok(count) if count > 0 => Ok(count),
         _ => Err(format!("--plays needs a number from 1 on, not {text}")),

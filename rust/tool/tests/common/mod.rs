@@ -59,13 +59,26 @@ impl Folder {
         sheet_files::load(&self.path(name), &mut Progress::quiet()).unwrap()
     }
 
-    /// Runs the tool inside the folder.
+    /// Runs the tool inside the folder, as `command` has it.
     pub fn run(&self, arguments: &str) -> Ended {
         Ended::of(self.command(arguments).output().unwrap())
     }
 
-    /// The tool inside the folder, not yet started.
+    /// Runs the tool inside the folder with these arguments and no other.
+    pub fn run_bare(&self, arguments: &str) -> Ended {
+        Ended::of(self.bare_command(arguments).output().unwrap())
+    }
+
+    /// The tool inside the folder, not yet started. A play is told its brush, so that it does not warn that none is.
     pub fn command(&self, arguments: &str) -> Command {
+        let mut command = self.bare_command(arguments);
+        if arguments.starts_with("play ") && !arguments.contains("--brush") {
+            command.args(["--brush", "000000"]);
+        }
+        command
+    }
+
+    fn bare_command(&self, arguments: &str) -> Command {
         let mut command = Command::new(env!("CARGO_BIN_EXE_lacrumont"));
         command.args(arguments.split_whitespace()).current_dir(&self.0);
         command

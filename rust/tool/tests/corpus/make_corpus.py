@@ -137,6 +137,8 @@ def clip_to(left, top, right, bottom):
 
 
 SAVE, RESTORE = record(33), record(34, -1)
+BEGIN_PATH, END_PATH = record(59), record(60)
+BLACK_BRUSH = select(0x80000004)
 NO_CLIP = record(75, 0, 5)
 TEXT = record(84, *OVER_ALL, 1, 0, 0, 2, 2, 0, 0, 0, 0, 0, 0, 0, 0)
 POLYGON = record(86, *OVER_ALL, 3, 0x00010001, 0x00050009, 0x00090001)
@@ -145,7 +147,7 @@ EMF_PLUS = record(70, 32, 0x2B464D45, 0x4001, 28, 16, 0xDBC01002, 1, 96, 96)
 HERE = (3, 4, 20, 10)
 
 FILES = {
-    "good": [blend(HERE), mask((0, 0, 33, 30)), stretch((10, 2, 25, 27))],
+    "good": [BLACK_BRUSH, blend(HERE), mask((0, 0, 33, 30)), stretch((10, 2, 25, 27))],
     # Plays that draw nothing.
     "inverted-bounds": [stretch(HERE, bounds=INVERTED), stretch(HERE, bounds=INVERTED)],
     "bounds-outside": [stretch(HERE, bounds=(100, 100, 200, 200)), stretch(HERE)],
@@ -157,27 +159,40 @@ FILES = {
     "window-origin": [window_origin(-7, 3), stretch(HERE)],
     "viewport-origin": [viewport_origin(0, 12), stretch(HERE)],
     "scaled-window": [map_mode(8), window(40, 30), viewport(40, 30), record(32, 2, 1, 3, 1), stretch(HERE)],
+    # Extents of 0 are not taken; the metric modes leave their own ones behind.
+    "window-of-nothing": [map_mode(8), window(800, 600), viewport(40, 30), window(0, 0), viewport(0, 0), stretch(HERE)],
+    "metric-before": [map_mode(8), window(100, 100), viewport(100, 100), map_mode(2), map_mode(8), stretch(HERE)],
     "twips": [map_mode(6), stretch(HERE)],
     "anisotropic": [map_mode(8), stretch(HERE)],
     "world-transform": [world(2, 0, 0, 2, 0, 0), stretch(HERE), blend(HERE)],
     "world-modified": [modify_world(2, 1, 0, 0, -1, 0, 30), stretch(HERE)],
+    "world-no-mode": [world(2, 0, 0, 2, 0, 0), modify_world(0, 1, 0, 0, 1, 0, 0), stretch(HERE)],
     "world-and-back": [world(2, 0, 0, 2, 0, 0), modify_world(3, 0.5, 0, 0, 0.5, 0, 0), stretch(HERE)],
     "restored": [SAVE, map_mode(8), window(9, 9), world(3, 0, 0, 3, 0, 0), clip_to(0, 0, 5, 5), RESTORE, stretch(HERE)],
     "set-behind": [stretch(HERE), map_mode(6), world(3, 0, 0, 3, 0, 0), clip_to(0, 0, 5, 5)],
     "mirrored-layout": [record(115, 1), stretch(HERE)],
+    "other-layout": [record(115, 8), stretch(HERE)],
     # Clips.
     "clipped": [clip_to(0, 0, 5, 5), stretch(HERE), record(29, 0, 0, 2, 2), blend(HERE)],
     "clip-taken-away": [clip_to(0, 0, 5, 5), NO_CLIP, stretch(HERE)],
-    "clip-path": [record(59), POLYGON, record(60), record(67, 5), stretch(HERE)],
+    "clip-path": [BEGIN_PATH, POLYGON, END_PATH, record(67, 5), stretch(HERE)],
+    "clip-lasting": [clip_to(0, 0, 5, 5), record(28), clip_to(0, 0, 2, 2), stretch(HERE)],
+    # Colours.
+    "colour-matching": [record(98, 2), stretch(HERE), record(98, 1), stretch(HERE)],
+    "colour-adjustment": [record(23, 24, *[0] * 5), stretch(HERE), stretch((0, 0, 2, 1))],
     # Brushes.
     "brush": [brush(1, 0x000080FF), select(1), stretch(HERE, None, rop=PATCOPY), stretch(HERE)],
     "brush-hatched": [brush(1, 0x000080FF, 2), select(1), mask(HERE)],
+    "brush-of-palette": [brush(1, 0x01000005), select(1), stretch(HERE, None, rop=PATCOPY)],
+    "brush-cut-off": [record(39, 1, 0), select(1), stretch(HERE, None, rop=PATCOPY)],
+    "no-brush": [stretch(HERE, None, rop=PATCOPY), stretch(HERE), mask(HERE)],
     "brush-stock": [select(0x80000000), stretch(HERE, None, rop=PATCOPY)],
     "brush-unused": [brush(1, 0x000080FF), select(1), stretch(HERE), stretch(HERE, None, rop=DSTINVERT)],
     "stretch-mode": [record(21, 4), stretch(HERE), stretch((0, 0, 2, 1))],
     # Records that are not played.
     "bitblt-only": [bitblt((0, 0, 2, 1)), bitblt((0, 0, 40, 30), None, PATCOPY)],
     "every-bitmap-type": [
+        BLACK_BRUSH,
         bitblt(HERE),
         stretchblt(HERE),
         mask(HERE),
@@ -189,8 +204,11 @@ FILES = {
     ],
     "no-bitmap": [map_mode(1)],
     "text-and-shapes": [POLYGON, TEXT, POLYGON, stretch(HERE)],
+    # A path gathers the polygon; the pixel and the region are drawn at once. Restoring ends a path.
+    "drawn-in-a-path": [BEGIN_PATH, POLYGON, record(15, 1, 1, 255), record(71, *OVER_ALL, 0, 1), END_PATH, stretch(HERE)],
+    "path-restored": [SAVE, BEGIN_PATH, RESTORE, POLYGON, stretch(HERE)],
     "emf-plus": [EMF_PLUS, EMF_PLUS, stretch(HERE)],
-    "unknown-type": [record(200, 1, 2), stretch(HERE)],
+    "unknown-type": [record(200, 1, 2), stretch(HERE), record(1, 0, 0)],
     # Records that are refused.
     "rle8": [stretch(HERE, dib(2, 1, 8, bytes([2, 0, 0, 1]), 1, (0, 0xFFFFFF)))],
     "jpeg": [stretch(HERE, dib(2, 1, 0, b"\xff\xd8\xff\xd9", 4))],

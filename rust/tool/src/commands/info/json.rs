@@ -93,6 +93,7 @@ fn record(entry: &Entry) -> Value {
         ("type", facts.kind.into()),
         ("type_name", facts.kind.map(|kind| record_types::name(kind).into_owned()).into()),
         ("Size", facts.size.into()),
+        ("fixed_part", facts.fixed_end().map(|end| number(end as u64)).into()),
         ("Bounds", facts.bounds.map(corners).into()),
         ("target", facts.target.map(target).into()),
         ("source_rectangle", facts.source_rectangle.map(rectangle).into()),
