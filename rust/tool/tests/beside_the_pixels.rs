@@ -83,6 +83,43 @@ fn a_bmp_keeps_the_resolution() {
     assert_eq!(folder.get_sheet("late.bmp").surface, folder.get_sheet("metadata-srgb.png").surface);
 }
 
+/// A PNG file of grey pixels has a profile for grey ones; what is written has colours.
+#[test]
+fn a_profile_of_grey_pixels() {
+    let folder = prepared("a_profile_of_grey_pixels");
+    let grey = fs::read(concat!(env!("CARGO_MANIFEST_DIR"), "/tests/fixtures/grey-icc.png")).unwrap();
+    folder.put("grey.png", &grey);
+    let ended = folder.run("play grey.png a.emf -o out.png").expect(3);
+    let words = "out.png: not kept of what the sheet's file says: the colour profile (iCCP)";
+    assert_eq!(ended.err, format!("lacrumont: warning: {words}\n"));
+    assert!(chunks(&grey).iter().any(|(name, _)| name == "iCCP"));
+    assert_eq!(chunks(&folder.get("out.png")), []);
+}
+
+/// The fourth byte of a BMP file's pixels is no alpha without a mask. Where it seems to be one, it is told.
+#[test]
+fn a_fourth_byte_that_is_no_alpha() {
+    let folder = prepared("a_fourth_byte_that_is_no_alpha");
+    folder.put_sheet("deep.bmp", &noisy_sheet(30, 20, true));
+    let deep = folder.get("deep.bmp");
+    // The same pixels under a 40-byte header and BI_RGB.
+    let plain = |fourth: &dyn Fn(u8) -> u8| {
+        let mut file = [&deep[..54], &deep[122..]].concat();
+        (file[10], file[14], file[30]) = (54, 40, 0);
+        file[54..].chunks_exact_mut(4).for_each(|pixel| pixel[3] = fourth(pixel[3]));
+        file
+    };
+    let cases: [(&dyn Fn(u8) -> u8, bool); 4] =
+        [(&|_| 0, false), (&|_| 255, false), (&|_| 7, true), (&|alpha| alpha, true)];
+    for (fourth, told) in cases {
+        folder.put("sheet.bmp", &plain(fourth));
+        let ended = folder.run("play sheet.bmp a.emf -o out.png --force").expect(if told { 3 } else { 0 });
+        let words = "out.png: not kept of what the sheet's file says: the fourth byte of its pixels, which is no alpha";
+        assert_eq!(ended.err, if told { format!("lacrumont: warning: {words}\n") } else { String::new() });
+        assert!(folder.get_sheet("out.png").surface.pixels.iter().all(|pixel| pixel >> 24 == 255));
+    }
+}
+
 /// A BMP sheet's own colours are not kept by any file.
 #[test]
 fn a_bmp_with_colours_of_its_own() {

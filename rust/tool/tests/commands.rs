@@ -4,6 +4,7 @@ mod common;
 
 use common::*;
 use lacrumont_tool::sheet::Sheet;
+use records::bytes::words;
 
 /// A folder with sheet.png, sheet.bmp (24 bits), deep.bmp (32 bits) and some EMF files.
 fn prepared(name: &str) -> Folder {
@@ -263,6 +264,59 @@ fn a_wrong_journal_changes_nothing() {
     assert_eq!(folder.get("j.1"), journal);
     folder.run("undo more.png --journal j -o undone.png --all").expect(0);
     assert_eq!(folder.get("undone.png"), folder.get("sheet.png"));
+}
+
+/// Where standard output fails and the files are written, the exit status does not say that they are not.
+#[test]
+fn a_full_standard_output() {
+    let folder = prepared("a_full_standard_output");
+    folder.put("one.emf", &emf(&[stretch_record([0, 0, 4, 4], 0xCC)]));
+    let full = |code: i32, arguments: &str| folder.run_after("exec >/dev/full", arguments).expect(code).err;
+    let words = "cannot write to standard output: No space left on device (os error 28)\n";
+    let warning = format!("lacrumont: warning: {words}");
+    assert_eq!(full(3, "play sheet.png one.emf -o out.png --journal j"), warning);
+    assert_eq!(full(3, "undo out.png -o undone.png --journal j"), warning);
+    assert_eq!(folder.get_sheet("undone.png").surface, folder.get_sheet("sheet.png").surface);
+    for listing in ["info one.emf", "journal undone.png --journal j"] {
+        assert_eq!(full(1, listing), format!("lacrumont: {words}"));
+    }
+    assert!(full(2, "play sheet.png refused.emf -o refused.png --brush 000000").ends_with(&warning));
+}
+
+/// A name does not make two lines of one, and does not act on a terminal.
+#[test]
+fn names_stay_on_their_line() {
+    let folder = prepared("names_stay_on_their_line");
+    let name = "a\u{1B}[31m\nlacrumont: 9 played.emf";
+    folder.put(name, &emf(&[bitblt_record()]));
+    let run = |arguments: [&str; 5]| Ended::of(folder.command("").args(arguments).output().unwrap());
+    let ended = run(["play", "sheet.png", name, "-o", "out.png"]);
+    let shown = "a\\u{1b}[31m\\nlacrumont: 9 played.emf";
+    assert_eq!(
+        ended.err,
+        format!("lacrumont: warning: {shown}: 1 record of type EMR_BITBLT (0x4C) not played: record 1\n")
+    );
+    let ended = run(["info", name, "a.emf", "b.emf", "refused.emf"]);
+    assert!(ended.out.starts_with(&format!("{shown}: 208 bytes\n")), "{ended:?}");
+    // A value behind = need not be Unicode.
+    use std::os::unix::ffi::OsStrExt;
+    let mut command = folder.command("play sheet.png b.emf -o journaled.png");
+    let ended = command.arg(std::ffi::OsStr::from_bytes(b"--journal=j\xFF")).output().unwrap();
+    assert_eq!(ended.status.code(), Some(0));
+    assert!(folder.path("").join(std::ffi::OsStr::from_bytes(b"j\xFF")).exists());
+}
+
+/// However often a file saves its state, and whatever stands in it then.
+#[test]
+fn a_file_cannot_fill_the_memory() {
+    let folder = Folder::new("a_file_cannot_fill_the_memory");
+    let (clip, save) = (words(&[30, 24, 0, 0, 5, 5]), words(&[33, 8]));
+    let mut records = [clip, save].concat().repeat(40_000);
+    records.extend(stretch_record([0, 0, 4, 4], 0xCC).repeat(5_000));
+    folder.put("a.emf", &emf(&[records]));
+    let ended = folder.run_after("ulimit -v 1000000", "info a.emf").expect(3);
+    let warning = "EMR_INTERSECTCLIPRECT, in force at records 1 to 5000: the file's clip is not honoured";
+    assert!(ended.out.contains(warning));
 }
 
 #[test]

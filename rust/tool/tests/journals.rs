@@ -167,6 +167,78 @@ fn a_dead_owner_is_seen() {
     assert_eq!(folder.get("j.lock"), b"mine");
 }
 
+/// Two at once that make one new OUT, each with its own journal: one of them does, and its journal fits.
+#[test]
+fn two_runs_and_one_new_file() {
+    let folder = prepared("two_runs_and_one_new_file");
+    for round in 0..25 {
+        let out = format!("new{round}.png");
+        let start = |emf: &str| {
+            let command = format!("play sheet.png {emf}.emf -o {out} --journal {emf}{round}");
+            folder.command(&command).stdout(Stdio::null()).stderr(Stdio::piped()).spawn().unwrap()
+        };
+        let ended = ["a", "b"].map(start).map(|run| Ended::of(run.wait_with_output().unwrap()));
+        let (won, lost) = if ended[0].code == Some(0) { (0, 1) } else { (1, 0) };
+        assert_eq!((ended[won].code, ended[lost].code), (Some(0), Some(1)), "{ended:?}");
+        let words = ["is already there; --force writes over it", "has come into being meanwhile"];
+        assert!(words.iter().any(|words| ended[lost].err.contains(words)), "{ended:?}");
+        folder.run(&format!("undo {out} -o undone{round}.png --journal {}{round} --all", ["a", "b"][won])).expect(0);
+        assert_eq!(folder.get_sheet(&format!("undone{round}.png")).surface, folder.get_sheet("sheet.png").surface);
+        assert!(!folder.has(&format!("{}{round}", ["a", "b"][lost])));
+    }
+}
+
+/// Two at once on one sheet in place without a journal: both are on it.
+#[test]
+fn two_runs_in_place() {
+    let folder = prepared("two_runs_in_place");
+    folder.run("play sheet.png a.emf b.emf -o both.png").expect(0);
+    for round in 0..25 {
+        folder.put("in_place.png", &folder.get("sheet.png"));
+        let start = |emf: &str| {
+            let command = format!("play in_place.png {emf}.emf -o in_place.png --force");
+            folder.command(&command).stdout(Stdio::null()).stderr(Stdio::piped()).spawn().unwrap()
+        };
+        for run in ["a", "b"].map(start) {
+            let ended = Ended::of(run.wait_with_output().unwrap()).expect(0);
+            let waits = "lacrumont: waiting for another run that writes in_place.png\n";
+            assert!(ended.err.is_empty() || ended.err == waits, "{ended:?}");
+        }
+        // They draw at different places, so their order does not matter.
+        assert_eq!(folder.get("in_place.png"), folder.get("both.png"), "round {round}");
+    }
+    let held = File::open(folder.path("in_place.png")).unwrap();
+    held.lock().unwrap();
+    let command = "play in_place.png a.emf -o in_place.png --force --no-wait";
+    folder.run(command).fails("another run writes in_place.png; without --no-wait this one would wait for it");
+    drop(held);
+    folder.run(command).expect(0);
+}
+
+/// Two at once on one sheet in place, each with its own journal: the later one sees that its journal no longer fits.
+#[test]
+fn two_journals_of_one_sheet() {
+    let folder = prepared("two_journals_of_one_sheet");
+    for round in 0..25 {
+        folder.put("in_place.png", &folder.get("sheet.png"));
+        for journal in ["j", "k"] {
+            folder.run(&format!("play sheet.png a.emf -o x.png --force --journal {journal}{round}")).expect(0);
+            folder.run(&format!("undo x.png -o x.png --force --journal {journal}{round}")).expect(0);
+        }
+        let start = |journal: &str| {
+            let command = format!("play in_place.png a.emf -o in_place.png --force --journal {journal}{round}");
+            folder.command(&command).stdout(Stdio::null()).stderr(Stdio::piped()).spawn().unwrap()
+        };
+        let ended = ["j", "k"].map(start).map(|run| Ended::of(run.wait_with_output().unwrap()));
+        let (won, lost) = if ended[0].code == Some(0) { (0, 1) } else { (1, 0) };
+        assert_eq!((ended[won].code, ended[lost].code), (Some(0), Some(1)), "{ended:?}");
+        assert!(ended[lost].err.contains("the journal belongs to another sheet"), "{ended:?}");
+        let journal = ["j", "k"][won];
+        folder.run(&format!("undo in_place.png -o x.png --force --journal {journal}{round}")).expect(0);
+        assert_eq!(folder.get_sheet("x.png").surface, folder.get_sheet("sheet.png").surface);
+    }
+}
+
 /// Two at once on one sheet in place and one journal: none is lost.
 #[test]
 fn two_runs_at_once() {

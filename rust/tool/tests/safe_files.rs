@@ -3,6 +3,7 @@
 mod common;
 
 use std::fs::{self, OpenOptions, Permissions};
+use std::io::Write;
 use std::os::unix::fs::{chown, symlink, MetadataExt, PermissionsExt};
 use std::os::unix::process::CommandExt;
 use std::process::{Child, Stdio};
@@ -194,6 +195,23 @@ fn each_state_of_a_killed_run() {
     assert_eq!(cut.folder.get("sheet.png"), *sheet0);
 }
 
+/// A picture that is new gets its name as a second one; a kill may leave both.
+#[test]
+fn a_killed_run_that_made_a_new_picture() {
+    let folder = prepared("a_killed_run_that_made_a_new_picture");
+    folder.run("play sheet.png a.emf -o out.png --journal j").expect(0);
+    let (picture, journal) = (folder.get("out.png"), folder.get("j"));
+    fs::hard_link(folder.path("out.png"), folder.path(".out.png.4711-0.tmp")).unwrap();
+    fs::rename(folder.path("j"), folder.path(JOURNAL)).unwrap();
+    let lock = intent("").replace("out sheet.png", "out out.png").replace(PICTURE, ".out.png.4711-0.tmp");
+    folder.put("j.lock", lock.as_bytes());
+    let ended = folder.run("journal out.png --journal j").expect(0);
+    assert!(ended.err.contains("it had written out.png; its journal has been put in place now\n"), "{ended:?}");
+    assert!(ended.err.ends_with("removed .out.png.4711-0.tmp, which a killed run had left\n"), "{ended:?}");
+    assert!(folder.get("out.png") == picture && folder.get("j") == journal);
+    assert_eq!(folder.names(), ["a.emf", "j", "out.png", "sheet.png"]);
+}
+
 /// The old journal's second name goes with the rest, or is there in the end.
 #[test]
 fn a_killed_run_that_began_a_journal() {
@@ -382,6 +400,16 @@ fn owners_are_kept() {
     set_mode(&folder, "out.png", 0o644);
     run("play sheet.png a.emf -o out.png --force").unwrap().fails("out.png is read-only and is not replaced");
     run("undo out.png -o new.png --journal j").unwrap().fails("j is read-only and is not replaced");
+    // A lock that another user's run holds is no reason to complain of rights.
+    let mut lock = OpenOptions::new().write(true).create_new(true).open(folder.path("j.lock")).unwrap();
+    lock.write_all(b"lacrumont lock 1\nprocess 4711\n").unwrap();
+    set_mode(&folder, "j.lock", 0o644);
+    set_mode(&folder, "j", 0o666);
+    lock.lock().unwrap();
+    run("undo out.png -o new.png --journal j --no-wait").unwrap().fails("another run (process 4711) has the journal j");
+    lock.unlock().unwrap();
+    run("undo out.png -o new.png --journal j").unwrap().fails("cannot write j.lock: Permission denied");
+    fs::remove_file(folder.path("j.lock")).unwrap();
     // A journal can be listed where no lock can be made.
     set_mode(&folder, "", 0o755);
     assert!(run("journal out.png --journal j").unwrap().expect(0).out.contains("2 plays; "));
