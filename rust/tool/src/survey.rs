@@ -100,8 +100,8 @@ struct Seen<'a> {
     brush: Option<u32>,
     device: Device,
     records: Vec<Listed<'a>>,
-    /// Records that set what is not honoured: in words, and the bitmap records at which it is in force.
-    settings: BTreeMap<At, (String, Vec<usize>)>,
+    /// Records that set what is not honoured, and in words what that comes to: the bitmap records at which it is in force.
+    settings: BTreeMap<(At, String), Vec<usize>>,
     /// Bitmap records that use a brush where nobody has named one.
     without_brush: Vec<usize>,
     skipped: BTreeMap<u32, Vec<usize>>,
@@ -163,8 +163,8 @@ impl<'a> Seen<'a> {
                 self.without_brush.push(number);
             }
         }
-        for (at, words) in found {
-            self.settings.entry(at).or_insert((words, Vec::new())).1.push(number);
+        for setting in found {
+            self.settings.entry(setting).or_default().push(number);
         }
     }
 
@@ -205,7 +205,7 @@ impl<'a> Seen<'a> {
 
     fn warnings(&self) -> Vec<String> {
         let mut warnings = Vec::new();
-        for (at, (words, numbers)) in &self.settings {
+        for ((at, words), numbers) in &self.settings {
             let (name, records) = (record_types::name(at.kind), words::records(numbers));
             warnings.push(format!("offset {}: {name}, in force at {records}: {words}", at.offset));
         }

@@ -45,6 +45,17 @@ const CASES: &[Case] = &[
             "offset 116: EMR_SETVIEWPORTEXTEX, in force at record 1: a window of 800 by 600 on a viewport of 40 by 30",
         ],
     ),
+    Case(
+        "window-changed",
+        3,
+        [2, 0, 0, 0],
+        &[
+            "offset 100: EMR_SETWINDOWEXTEX, in force at record 1: a window of 800 by 600 on a viewport of 40 by 30",
+            "offset 100: EMR_SETWINDOWEXTEX, in force at record 2: a window of 800 by 600 on a viewport of 400 by 300",
+            "offset 116: EMR_SETVIEWPORTEXTEX, in force at record 1: a window of 800 by 600 on a viewport of 40 by 30",
+            "offset 260: EMR_SETVIEWPORTEXTEX, in force at record 2: a window of 800 by 600 on a viewport of 400 by 300",
+        ],
+    ),
     Case("window-extent-alone", 3, [1, 0, 0, 0], &["a window of 800 by 600 on a viewport of 1 by 1 (mapping mode MM_TEXT)"]),
     Case("window-same", 0, [1, 0, 0, 0], &[]),
     Case("window-origin", 3, [1, 0, 0, 0], &["the window's origin -7, 3 on the viewport's origin 0, 0 is not honoured"]),

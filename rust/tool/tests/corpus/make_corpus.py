@@ -154,6 +154,14 @@ FILES = {
     "target-outside": [stretch((100, 4, 20, 10)), blend((3, -10, 20, 10))],
     # Mappings.
     "window-mapping": [map_mode(8), window(800, 600), viewport(40, 30), stretch((0, 0, 800, 600))],
+    "window-changed": [
+        map_mode(8),
+        window(800, 600),
+        viewport(40, 30),
+        stretch(HERE),
+        viewport(400, 300),
+        stretch(HERE),
+    ],
     "window-extent-alone": [window(800, 600), stretch(HERE)],
     "window-same": [map_mode(8), window_origin(5, 5), viewport_origin(5, 5), window(800, 600), viewport(800, 600), stretch(HERE)],
     "window-origin": [window_origin(-7, 3), stretch(HERE)],
