@@ -41,7 +41,7 @@ impl Area {
         self.left >= self.right || self.top >= self.bottom
     }
 
-    fn pixels(self) -> u64 {
+    pub fn pixels(self) -> u64 {
         if self.is_empty() {
             return 0;
         }

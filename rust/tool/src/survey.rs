@@ -45,11 +45,15 @@ impl Listed<'_> {
         format!("record {} at offset {}: {}", self.number, self.record.offset, record_types::named(self.record.kind))
     }
 
+    /// The pixels it covers. None where the record is too short to tell.
+    pub fn target(&self) -> Option<Area> {
+        Facts::read(self.record.bytes).target_rectangle().map(Area::of)
+    }
+
     /// How many pixels a play of it counts under this cut clip, which is called so, or why none. None where the record is
     /// too short to tell.
     pub fn reach(&self, clip: Area, called: &str) -> Option<Result<u64, String>> {
-        let facts = Facts::read(self.record.bytes);
-        let (bounds, target) = (facts.bounds?, Area::of(facts.target_rectangle()?));
+        let (bounds, target) = (Facts::read(self.record.bytes).bounds?, self.target()?);
         Some(reach(bounds, target, clip).map_err(|nothing| nothing.words(bounds, target, called)))
     }
 }

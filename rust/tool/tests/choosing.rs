@@ -9,7 +9,7 @@ fn prepared(name: &str) -> Folder {
     let folder = Folder::new(name);
     folder.put_sheet("sheet.png", &noisy_sheet(40, 30, true));
     folder.put_sheet("sheet.bmp", &noisy_sheet(40, 30, false));
-    let (brush, mask) = (brush_record([2, 3, 10, 10]), mask_record([20, 0, 33, 30]));
+    let (brush, mask) = (brush_record([2, 3, 10, 10]), mask_record([20, 0, 20, 30]));
     let mut refused = blend_record([0, 0, 5, 5], 0);
     refused[40] = 1;
     folder.put("all.emf", &emf(&[brush.clone(), bitblt_record(), mask.clone(), refused]));
@@ -77,7 +77,7 @@ fn a_dry_run_knows_the_room() {
 fn a_dry_run_sees_a_full_journal() {
     let folder = Folder::new("a_dry_run_sees_a_full_journal");
     folder.put_sheet("sheet.bmp", &noisy_sheet(4096, 2600, false));
-    folder.put("a.emf", &emf(&[brush_record([0, 0, 4096, 4096]), brush_record([0, 0, 4096, 4096])]));
+    folder.put("a.emf", &emf(&[brush_record([0, 0, 4096, 2600]), brush_record([0, 0, 4096, 2600])]));
     folder.run("play sheet.bmp a.emf --dry-run").expect(0);
     let ended = folder.run("play sheet.bmp a.emf --dry-run --journal j").expect(1);
     assert!(ended.out.contains("21,299,202 journal records needed"), "{ended:?}");

@@ -14,7 +14,7 @@ fn prepared(name: &str) -> Folder {
     folder.put_sheet("deep.bmp", &noisy_sheet(43, 31, true));
     folder
         .put("a.emf", &emf(&[blend_record([3, 4, 20, 10], 0x8040_2010), other_record(), mask_record([0, 0, 33, 30])]));
-    folder.put("b.emf", &emf(&[stretch_record([10, 2, 25, 27], 0x88), brush_record([39, 29, 500, 500])]));
+    folder.put("b.emf", &emf(&[stretch_record([10, 2, 25, 27], 0x88), brush_record([39, 29, 1, 1])]));
     let mut wrong = blend_record([0, 0, 5, 5], 0);
     wrong[40] = 1;
     folder.put("refused.emf", &emf(&[brush_record([0, 0, 2, 2]), wrong, mask_record([5, 5, 3, 3])]));
@@ -332,7 +332,7 @@ fn a_failure_leaves_no_half_file() {
 fn a_full_journal_is_an_error() {
     let folder = Folder::new("a_full_journal_is_an_error");
     folder.put_sheet("sheet.bmp", &noisy_sheet(4096, 2600, false));
-    folder.put("a.emf", &emf(&[brush_record([0, 0, 4096, 4096]), brush_record([0, 0, 4096, 4096])]));
+    folder.put("a.emf", &emf(&[brush_record([0, 0, 4096, 2600]), brush_record([0, 0, 4096, 2600])]));
     let ended = folder.run("play sheet.bmp a.emf -o out.bmp --journal j").expect(1);
     assert!(ended.err.contains("status 14: the journal has no room"), "{ended:?}");
     assert!(ended

@@ -36,6 +36,15 @@ const CASES: &[Case] = &[
         ],
     ),
     Case(
+        "half-outside",
+        3,
+        [2, 0, 0, 0],
+        &[
+            "warning: half-outside.emf: record 1 at offset 88: stretched DIB (EMR_STRETCHDIBITS, 0x51): only 100 of its \
+             target's 400 pixels lie on the sheet",
+        ],
+    ),
+    Case(
         "window-mapping",
         3,
         [1, 0, 0, 0],
@@ -43,6 +52,7 @@ const CASES: &[Case] = &[
             "warning: window-mapping.emf: offset 100: EMR_SETWINDOWEXTEX, in force at record 1: a window of 800 by 600 on a \
              viewport of 40 by 30 (mapping mode MM_ANISOTROPIC) is not honoured; coordinates are taken as sheet pixels",
             "offset 116: EMR_SETVIEWPORTEXTEX, in force at record 1: a window of 800 by 600 on a viewport of 40 by 30",
+            "only 1,200 of its target's 480,000 pixels lie on the sheet",
         ],
     ),
     Case(
@@ -275,9 +285,10 @@ fn info_tells_it_before() {
     for Case(name, code, [_, nothing, refused, skipped], lines) in CASES {
         let (code, told) = match *name {
             // Which sheet and which brush there will be, the file does not say.
-            "bounds-outside" | "no-brush" => (0, 0),
+            "bounds-outside" | "half-outside" | "no-brush" => (0, 0),
             // Of its two targets one lies on some sheets.
             "target-outside" => (3, 1),
+            "window-mapping" => (3, 2),
             _ => (*code, lines.len() - *refused as usize),
         };
         let ended = folder.run(&format!("info {name}.emf")).expect(code);
@@ -287,7 +298,7 @@ fn info_tells_it_before() {
         if *skipped == 0 {
             assert_eq!(count("warning: "), told, "{name}");
         }
-        for line in lines.iter().filter(|_| *nothing + *skipped == 0 && told > 0) {
+        for line in lines.iter().filter(|_| *nothing + *skipped == 0).take(told + *refused as usize) {
             let words = line.strip_prefix("refused, ").unwrap_or(line);
             let words = words.split(".emf: ").last().unwrap();
             assert!(ended.out.contains(words), "{name}: {:?} has no {words:?}", ended.out);

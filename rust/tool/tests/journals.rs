@@ -14,7 +14,7 @@ fn prepared(name: &str) -> Folder {
     folder.put_sheet("sheet.png", &noisy_sheet(40, 30, true));
     folder.put_sheet("other.png", &noisy_sheet(30, 40, true));
     folder.put("a.emf", &emf(&[blend_record([3, 4, 20, 10], 0x8040_2010)]));
-    folder.put("b.emf", &emf(&[mask_record([35, 1, 33, 2]), brush_record([30, 28, 5, 5])]));
+    folder.put("b.emf", &emf(&[mask_record([35, 1, 5, 2]), brush_record([30, 28, 5, 2])]));
     folder
 }
 

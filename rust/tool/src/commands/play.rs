@@ -31,9 +31,9 @@ const HELP: &str = "\
 lacrumont play SHEET FILE.emf [FILE.emf ..] -o OUT [options]
 
 Plays every bitmap record of the files (alpha blend 0x72, mask blit 0x4E, stretched DIB 0x51) in order onto the sheet
-and writes OUT. A record that is refused, or of a type that is not played, is named on standard error, and so is
-whatever else in a file is not honoured: mappings, clips, brushes, lines, text. A damaged EMF file is an error: then
-nothing is written.
+and writes OUT. A record that is refused, of a type that is not played, or only partly on the sheet, is named on
+standard error, and so is whatever else in a file is not honoured: mappings, clips, brushes, lines, text. A damaged EMF
+file is an error: then nothing is written.
 
   -o OUT           the file to write, .png or .bmp
   --clip L,T,R,B   only pixels inside are drawn; right and bottom are not included; without it, the whole sheet
@@ -105,9 +105,8 @@ pub fn run(arguments: &[OsString], out: &mut Out) -> Result<u8, String> {
         tally.warn(&lost);
     }
 
-    let clip = asked.clip.unwrap_or_else(|| whole(&sheet));
     let scratch = (asked.journal.is_none() || asked.dry_run).then(Journal::new);
-    let (brush, held) = (asked.brush.unwrap_or(BLACK), journal.used());
+    let (clip, brush, held) = (asked.clip, asked.brush.unwrap_or(BLACK), journal.used());
     let mut playing = Playing { sheet: &mut sheet, journal, held, scratch, clip, brush, needed: 0, tally, out };
     for (done, (path, listed)) in records.iter().enumerate() {
         playing.play(path, listed)?;
@@ -244,10 +243,6 @@ impl Asked {
         out.line(&format!("{}; wrote {}", tally.line(), written.display()));
         Ok(tally.code())
     }
-}
-
-fn whole(sheet: &Sheet) -> Clip {
-    Clip { left: 0, top: 0, right: sheet.surface.width as i32, bottom: sheet.surface.height as i32 }
 }
 
 /// The journal that is there, or a new one, and what becomes of the file.

@@ -20,7 +20,8 @@ pub struct Playing<'a> {
     pub held: u64,
     /// For plays that are not kept; None where the journal keeps them.
     pub scratch: Option<Journal>,
-    pub clip: Clip,
+    /// None for the whole sheet.
+    pub clip: Option<Clip>,
     pub brush: u32,
     /// Journal records that the plays take.
     pub needed: u64,
@@ -31,9 +32,9 @@ pub struct Playing<'a> {
 impl Playing<'_> {
     /// Plays a record that reading accepts, and says what it has drawn.
     pub fn play(&mut self, path: &Path, listed: &Listed) -> Result<(), String> {
-        let place = format!("{}: {}", path.display(), listed.name());
+        let (place, clip) = (format!("{}: {}", path.display(), listed.name()), self.clip());
         let journal = self.scratch.as_mut().unwrap_or(&mut self.journal);
-        let answer = journal.play(&mut self.sheet.surface, listed.record.bytes, self.clip, self.brush);
+        let answer = journal.play(&mut self.sheet.surface, listed.record.bytes, clip, self.brush);
         // These plays will not be taken back, so each may have the whole journal.
         if let Some(scratch) = &mut self.scratch {
             scratch.forget();
@@ -53,6 +54,7 @@ impl Playing<'_> {
         self.out.line(&format!("{place}: {}", words::things(pixels.into(), "pixel")));
         if pixels > 0 {
             self.tally.played += 1;
+            self.cut(place, listed, pixels);
             return;
         }
         self.tally.nothing += 1;
@@ -60,10 +62,25 @@ impl Playing<'_> {
         self.tally.warn(&format!("{place}: accepted, but it draws nothing: {why}"));
     }
 
+    /// Half a layer is told, unless a clip was asked for.
+    fn cut(&mut self, place: &str, listed: &Listed, pixels: u32) {
+        let whole = listed.target().map_or(0, Area::pixels);
+        if self.clip.is_none() && u64::from(pixels) < whole {
+            let (pixels, whole) = (words::count(pixels.into()), words::count(whole));
+            self.tally.warn(&format!("{place}: only {pixels} of its target's {whole} pixels lie on the sheet"));
+        }
+    }
+
     fn reach(&self, listed: &Listed) -> Option<Result<u64, String>> {
         let surface = &self.sheet.surface;
-        let clip = Area::cut(self.clip, surface.width, surface.height);
+        let clip = Area::cut(self.clip(), surface.width, surface.height);
         listed.reach(clip, &format!("the clip {}, {}, {}, {}", clip.left, clip.top, clip.right, clip.bottom))
+    }
+
+    fn clip(&self) -> Clip {
+        let surface = &self.sheet.surface;
+        let whole = Clip { left: 0, top: 0, right: surface.width as i32, bottom: surface.height as i32 };
+        self.clip.unwrap_or(whole)
     }
 
     fn free(&self) -> u64 {

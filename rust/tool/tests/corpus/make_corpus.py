@@ -152,6 +152,7 @@ FILES = {
     "inverted-bounds": [stretch(HERE, bounds=INVERTED), stretch(HERE, bounds=INVERTED)],
     "bounds-outside": [stretch(HERE, bounds=(100, 100, 200, 200)), stretch(HERE)],
     "target-outside": [stretch((100, 4, 20, 10)), blend((3, -10, 20, 10))],
+    "half-outside": [stretch((30, 20, 20, 20)), stretch(HERE)],
     # Mappings.
     "window-mapping": [map_mode(8), window(800, 600), viewport(40, 30), stretch((0, 0, 800, 600))],
     "window-changed": [
