@@ -168,19 +168,19 @@ impl Device {
 
     /// Negative numbers count from the state saved last, positive ones from the first.
     fn restore(&mut self, number: Option<i32>) {
-        if number == Some(-1) && self.not_kept > 0 {
-            self.not_kept -= 1;
-            return;
-        }
-        let saved = self.saved.len() as i64;
+        let kept = self.saved.len() as i64;
+        let saved = kept + self.not_kept as i64;
         let place = match number {
             Some(number) if number < 0 => saved + i64::from(number),
             Some(number) => i64::from(number) - 1,
             None => -1,
         };
-        if (0..saved).contains(&place) {
+        if (0..kept).contains(&place) {
             self.state = self.saved.swap_remove(place as usize);
             self.saved.truncate(place as usize);
+            self.not_kept = 0;
+        } else if (kept..saved).contains(&place) {
+            self.not_kept = (place - kept) as u64;
         }
     }
 

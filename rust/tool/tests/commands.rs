@@ -317,6 +317,14 @@ fn a_file_cannot_fill_the_memory() {
     let ended = folder.run_after("ulimit -v 1000000", "info a.emf").expect(3);
     let warning = "EMR_INTERSECTCLIPRECT, in force at records 1 to 5000: the file's clip is not honoured";
     assert!(ended.out.contains(warning));
+    // The state saved first is found again, by its number or one by one; the one before it never was saved.
+    let restore = |number: i32| words(&[34, 12, number as u32]);
+    let saved = [words(&[33, 8]), [words(&[30, 24, 0, 0, 5, 5]), words(&[33, 8])].concat().repeat(20_000)].concat();
+    let drawn = stretch_record([0, 0, 4, 4], 0xCC);
+    for (back, code) in [(restore(1), 0), (restore(-20_001), 0), (restore(-1).repeat(20_001), 0), (restore(-1), 3)] {
+        folder.put("saved.emf", &emf(&[saved.clone(), back, drawn.clone()]));
+        folder.run("info saved.emf").expect(code);
+    }
 }
 
 #[test]
