@@ -71,7 +71,7 @@ pub fn read(bytes: &[u8]) -> Result<Sheet, String> {
     // Without an alpha mask there is no alpha, but some programs keep one there all the same.
     let unused = (0..step).find(|byte| !places.contains(&Some(*byte)));
     let fourth = unused.filter(|byte| differs(body.iter().skip(*byte).step_by(step)));
-    let fourth = fourth.map(|_| "the fourth byte of its pixels, which is no alpha".to_string());
+    let fourth = fourth.map(|_| "the byte of its pixels that is no channel".to_string());
     let resolution = Resolution::new(header(24)?, header(28)?);
     let extras = Extras { resolution, dropped: colours.into_iter().chain(fourth).collect(), ..Extras::default() };
     Ok(Sheet { surface: Surface { width: width as u32, height: rows, pixels }, deep: bits == 32, extras })
@@ -98,8 +98,9 @@ fn places(masks: [u32; 4]) -> Result<[Option<usize>; 4], String> {
     for (place, mask) in places.iter_mut().zip(masks) {
         *place = (0..4).find(|byte| mask == 0xFF << (8 * byte));
     }
-    if places[..3].contains(&None) || (places[3].is_none() && masks[3] != 0) {
-        return Err("the BMP file's channel masks are not one byte each; others are not read".to_string());
+    let twice = (1..4).any(|place| places[place].is_some() && places[..place].contains(&places[place]));
+    if twice || places[..3].contains(&None) || (places[3].is_none() && masks[3] != 0) {
+        return Err("the BMP file's channel masks are not a byte of its own each; others are not read".to_string());
     }
     Ok(places)
 }
@@ -249,6 +250,8 @@ mod tests {
         assert!(says(built(40, 2, 24, 0, &[], &BODY[..15])).contains("cut off"));
         assert!(says(built(40, 2, 32, 3, &[0x7C00, 0x03E0, 0x1F], &BODY)).contains("masks"));
         assert!(says(built(40, 2, 32, 3, &[0; 3], &BODY)).contains("masks"));
+        assert!(says(built(40, 2, 32, 3, &[0xFF, 0xFF00, 0xFF], &BODY)).contains("masks"));
+        assert!(says(built(56, 2, 32, 3, &[0xFF, 0xFF00, 0xFF_0000, 0xFF], &BODY)).contains("masks"));
         let mut early = built(40, 2, 24, 0, &[], &BODY);
         early[10] = 53;
         assert!(says(early).contains("inside its header"));

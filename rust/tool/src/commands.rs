@@ -24,7 +24,7 @@ and takes plays back.
   lacrumont info FILE.emf [FILE.emf ..] [--json]
       lists the files' bitmap records, says of each whether it can be played, and what in a file is not honoured
   lacrumont play SHEET FILE.emf [FILE.emf ..] -o OUT [--clip L,T,R,B] [--brush RRGGBB] [--only N[,N]] [--skip N[,N]]
-                 [--strict] [--dry-run] [--force] [--journal FILE [--new-journal] [--no-wait]]
+                 [--strict] [--dry-run] [--force] [--no-wait] [--journal FILE [--new-journal]]
       plays the files' bitmap records in order onto the sheet and writes OUT
   lacrumont undo SHEET --journal FILE -o OUT [--plays N | --all] [--force] [--no-wait]
       takes plays back and writes OUT
@@ -46,9 +46,11 @@ Exit status: 0  every wanted bitmap record was played (info: can be), and nothin
 /// Runs the command these arguments name, and gives the exit status.
 pub fn run(arguments: Vec<OsString>) -> u8 {
     let mut out = Out::default();
-    let ended = match (dispatch(&arguments, &mut out), out.end()) {
-        // The files are there, so this is no error that says otherwise.
-        (Ok(code), Err(words)) if arguments[0] == "play" || arguments[0] == "undo" => {
+    let ended = dispatch(&arguments, &mut out);
+    let files_written = out.files_written;
+    let ended = match (ended, out.end()) {
+        // An error would say that they are not.
+        (Ok(code), Err(words)) if files_written => {
             complain(&format!("warning: {words}"));
             Ok(if code == FINE { WARNED } else { code })
         }

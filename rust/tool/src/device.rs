@@ -103,9 +103,10 @@ const IDENTITY: Transform = [1.0, 0.0, 0.0, 1.0, 0.0, 0.0];
 struct State {
     mode: Setting<u32>,
     window_origin: Setting<[i32; 2]>,
-    window_extent: Setting<[i32; 2]>,
+    /// None for those of a metric mapping mode.
+    window_extent: Setting<Option<[i32; 2]>>,
     viewport_origin: Setting<[i32; 2]>,
-    viewport_extent: Setting<[i32; 2]>,
+    viewport_extent: Setting<Option<[i32; 2]>>,
     world: Setting<Transform>,
     layout: Setting<u32>,
     stretch: Setting<u32>,
@@ -135,9 +136,9 @@ impl Device {
         let state = State {
             mode: Setting::first(MM_TEXT),
             window_origin: Setting::first([0, 0]),
-            window_extent: Setting::first([1, 1]),
+            window_extent: Setting::first(Some([1, 1])),
             viewport_origin: Setting::first([0, 0]),
-            viewport_extent: Setting::first([1, 1]),
+            viewport_extent: Setting::first(Some([1, 1])),
             world: Setting::first(IDENTITY),
             layout: Setting::first(0),
             stretch: Setting::first(COLORONCOLOR),
@@ -273,16 +274,18 @@ impl Default for Device {
 impl State {
     fn take(&mut self, bytes: &[u8], at: At) {
         let pair = || Some([i32_at(bytes, 8)?, i32_at(bytes, 12)?]);
-        // An extent of 0 is refused, and the old one stays.
-        let extent = || pair().filter(|pair| !pair.contains(&0));
+        // An extent of 0 is refused, and the old one stays; in a metric mode every one is.
+        let metric = is_metric(self.mode.value);
+        let extent = || pair().filter(|pair| !metric && !pair.contains(&0)).map(Some);
+        let rescaled = |old: Option<[i32; 2]>| old.filter(|_| !metric).and_then(|old| scaled(old, bytes)).map(Some);
         match at.kind {
             SETMAPMODE => self.set_mode(u32_at(bytes, 8), at),
             SETWINDOWEXTEX => self.window_extent.set(extent(), at),
             SETWINDOWORGEX => self.window_origin.set(pair(), at),
             SETVIEWPORTEXTEX => self.viewport_extent.set(extent(), at),
             SETVIEWPORTORGEX => self.viewport_origin.set(pair(), at),
-            SCALEWINDOWEXTEX => self.window_extent.set(scaled(self.window_extent.value, bytes), at),
-            SCALEVIEWPORTEXTEX => self.viewport_extent.set(scaled(self.viewport_extent.value, bytes), at),
+            SCALEWINDOWEXTEX => self.window_extent.set(rescaled(self.window_extent.value), at),
+            SCALEVIEWPORTEXTEX => self.viewport_extent.set(rescaled(self.viewport_extent.value), at),
             SETWORLDTRANSFORM => self.world.set(transform(bytes), at),
             MODIFYWORLDTRANSFORM => self.world.set(modified(self.world.value, bytes), at),
             SETLAYOUT => self.layout.set(u32_at(bytes, 8), at),
@@ -312,10 +315,11 @@ impl State {
 
     /// The metric modes have extents of their own, which stay when another mode follows.
     fn set_mode(&mut self, mode: Option<u32>, at: At) {
+        let mode = mode.filter(|mode| (MM_TEXT..=MM_ANISOTROPIC).contains(mode));
         self.mode.set(mode, at);
-        if mode.is_some_and(|mode| (MM_TEXT + 1..MM_ISOTROPIC).contains(&mode)) {
-            self.window_extent = Setting::first([1, 1]);
-            self.viewport_extent = Setting::first([1, 1]);
+        if mode.is_some_and(is_metric) {
+            self.window_extent = Setting::first(None);
+            self.viewport_extent = Setting::first(None);
         }
     }
 
@@ -326,20 +330,19 @@ impl State {
             let [a, b, c, d, x, y] = self.world.value;
             add(self.world.by, format!("a world transform {a}, {b}, {c}, {d}, {x}, {y}"));
         }
-        let extents_given = self.window_extent.by.is_some() || self.viewport_extent.by.is_some();
-        let mode_scales = match self.mode.value {
-            MM_TEXT => false,
-            MM_ISOTROPIC | MM_ANISOTROPIC => !extents_given,
-            _ => true,
-        };
-        if mode_scales {
-            add(self.mode.by, format!("mapping mode {}", mode_name(self.mode.value)));
-        }
-        if self.window_extent.value != self.viewport_extent.value {
-            let ([w, h], [v, u]) = (self.window_extent.value, self.viewport_extent.value);
-            let mode = mode_name(self.mode.value);
-            for by in [self.window_extent.by, self.viewport_extent.by] {
-                add(by, format!("a window of {w} by {h} on a viewport of {v} by {u} (mapping mode {mode})"));
+        let (window, viewport, mode) = (self.window_extent, self.viewport_extent, mode_name(self.mode.value));
+        let neither_given = window.by.is_none() && viewport.by.is_none();
+        match (self.mode.value, window.value.zip(viewport.value)) {
+            (MM_TEXT, None) => {}
+            (MM_ISOTROPIC | MM_ANISOTROPIC, Some(_)) if neither_given => {
+                add(self.mode.by, format!("mapping mode {mode}"))
+            }
+            (_, None) => add(self.mode.by, format!("mapping mode {mode}")),
+            (_, Some((one, other))) if one == other => {}
+            (_, Some(([w, h], [v, u]))) => {
+                for by in [window.by, viewport.by] {
+                    add(by, format!("a window of {w} by {h} on a viewport of {v} by {u} (mapping mode {mode})"));
+                }
             }
         }
         if self.window_origin.value != self.viewport_origin.value {
@@ -354,6 +357,11 @@ impl State {
         }
         found
     }
+}
+
+/// The modes whose units are lengths on the device.
+fn is_metric(mode: u32) -> bool {
+    (MM_TEXT + 1..MM_ISOTROPIC).contains(&mode)
 }
 
 fn mode_name(mode: u32) -> String {

@@ -1,7 +1,7 @@
 //! Reading whole files, and what must be known of a name before something is written there.
 
 use std::ffi::OsString;
-use std::fs::{self, File, OpenOptions, TryLockError};
+use std::fs::{self, File, Metadata, OpenOptions, TryLockError};
 use std::io::{self, ErrorKind, Read};
 use std::os::unix::fs::{MetadataExt, PermissionsExt};
 use std::path::{Path, PathBuf};
@@ -38,7 +38,7 @@ pub fn check_free(path: &Path, force: bool) -> Result<(), String> {
 pub fn check_replaceable(path: &Path) -> Result<(), String> {
     let name = path.display();
     let Ok(there) = path.metadata() else {
-        return Ok(());
+        return if path.is_symlink() { Err(format!("{name} is a link to nothing")) } else { Ok(()) };
     };
     if there.is_dir() {
         return Err(format!("{name} is a folder"));
@@ -51,7 +51,24 @@ pub fn check_replaceable(path: &Path) -> Result<(), String> {
     if there.permissions().mode() & 0o222 == 0 || denied() == Some(ErrorKind::PermissionDenied) {
         return Err(format!("{name} is read-only and is not replaced"));
     }
+    if is_guarded(path, &there) {
+        return Err(format!("{name} is another user's, in a folder where everybody may replace only his own files"));
+    }
     Ok(())
+}
+
+/// Whether the folder's sticky bit keeps this run from replacing the file.
+fn is_guarded(path: &Path, there: &Metadata) -> bool {
+    const STICKY: u32 = 0o1000;
+    let folder = resolved(path).and_then(|path| folder(&path).metadata());
+    // The process's own entry there is its user's.
+    match (folder, fs::metadata("/proc/self")) {
+        (Ok(folder), Ok(own)) => {
+            let user = own.uid();
+            folder.mode() & STICKY != 0 && user != 0 && user != there.uid() && user != folder.uid()
+        }
+        _ => false,
+    }
 }
 
 /// Whether both names mean one file, which may not be there yet.
@@ -68,7 +85,9 @@ fn full(path: &Path) -> Option<PathBuf> {
 pub fn hold(path: &Path, busy: impl Fn() -> Result<(), String>) -> Result<Option<File>, String> {
     let mut told = false;
     loop {
-        let Ok(file) = File::open(path) else { return Ok(None) };
+        // Some file systems lock only what is open for writing.
+        let writable = OpenOptions::new().read(true).write(true).open(path);
+        let Ok(file) = writable.or_else(|_| File::open(path)) else { return Ok(None) };
         match file.try_lock() {
             Ok(()) => {}
             Err(TryLockError::Error(_)) => return Ok(None),

@@ -187,13 +187,14 @@ pub fn sweep(name: &Path) -> Vec<PathBuf> {
     };
     let names = entries.filter_map(|entry| Some(entry.ok()?.file_name()));
     let theirs = names.filter(|name| target_name(name).is_some_and(|name| Some(name) == target.file_name()));
-    let mut swept: Vec<PathBuf> = theirs.map(|name| target.with_file_name(name)).filter(|path| remove(path)).collect();
+    let temporary = theirs.map(|name| target.with_file_name(name));
+    let mut swept: Vec<PathBuf> = temporary.filter(|path| remove(path, &target)).collect();
     swept.sort();
     swept
 }
 
-/// Removes a temporary file nobody holds.
-fn remove(path: &Path) -> bool {
+/// Removes a temporary file nobody holds, or one that has become the target and is held as such.
+fn remove(path: &Path, target: &Path) -> bool {
     if !path.symlink_metadata().is_ok_and(|there| there.is_file()) {
         return false;
     }
@@ -201,7 +202,8 @@ fn remove(path: &Path) -> bool {
         return false;
     };
     // The lock is held while the name goes, so that its maker cannot come in between.
-    file.try_lock().is_ok() && files::is_named(&file, path) && fs::remove_file(path).is_ok()
+    let free = file.try_lock().is_ok() || files::is_named(&file, target);
+    free && files::is_named(&file, path) && fs::remove_file(path).is_ok()
 }
 
 /// Gives a file a second name, by a copy where links cannot be made. Nothing that has the name is written over.

@@ -3,6 +3,8 @@
 use std::io::{self, IsTerminal, Write};
 use std::time::{Duration, Instant};
 
+use crate::words::one_line;
+
 const PAUSE: Duration = Duration::from_secs(1);
 
 pub struct Progress {
@@ -28,7 +30,7 @@ impl Progress {
         self.last = Instant::now();
         let percent = done as u64 * 100 / total.max(1) as u64;
         // A closed standard error is no reason to stop.
-        let _ = writeln!(io::stderr(), "lacrumont: {work}: {percent} %");
+        let _ = io::stderr().write_all(one_line(&format!("lacrumont: {work}: {percent} %")).as_bytes());
     }
 }
 

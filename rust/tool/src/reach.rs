@@ -14,8 +14,12 @@ pub struct Area {
 impl Area {
     /// The clip as it is cut to a surface of these sides.
     pub fn cut(clip: Clip, width: u32, height: u32) -> Area {
-        let clip = Area::of([clip.left, clip.top, clip.right, clip.bottom].map(i64::from));
-        clip.meet(Area::of([0, 0, width.into(), height.into()]))
+        Area::clip(clip).meet(Area::of([0, 0, width.into(), height.into()]))
+    }
+
+    /// The clip as it is given.
+    pub fn clip(Clip { left, top, right, bottom }: Clip) -> Area {
+        Area::of([left, top, right, bottom].map(i64::from))
     }
 
     /// Left, top, right, bottom; the last two not included.
@@ -28,7 +32,8 @@ impl Area {
         Area { left: left.into(), top: top.into(), right: i64::from(right) + 1, bottom: i64::from(bottom) + 1 }
     }
 
-    fn meet(self, other: Area) -> Area {
+    /// What both cover.
+    pub fn meet(self, other: Area) -> Area {
         Area {
             left: self.left.max(other.left),
             top: self.top.max(other.top),

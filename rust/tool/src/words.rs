@@ -30,6 +30,15 @@ pub fn numbered(number: u32) -> String {
     format!("status {number}: {}", status(number))
 }
 
+/// The words as one line, whatever a file's name may hold: control characters are escaped.
+pub fn one_line(words: &str) -> String {
+    let escaped = |character: char| match character.is_control() {
+        true => character.escape_default().to_string(),
+        false => character.to_string(),
+    };
+    words.chars().map(escaped).collect::<String>() + "\n"
+}
+
 /// A number with its thousands set apart, as in 20,000,000.
 pub fn count(number: u64) -> String {
     let digits = number.to_string();
@@ -87,6 +96,11 @@ mod tests {
         assert_eq!(all.len(), 19);
         assert_eq!(numbered(15), "status 15: the journal holds no play");
         assert_eq!(status(17), status(u32::MAX));
+    }
+
+    #[test]
+    fn lines() {
+        assert_eq!(one_line("höhe\n\u{1B}[31m\u{9B}.png"), "höhe\\n\\u{1b}[31m\\u{9b}.png\n");
     }
 
     #[test]

@@ -114,7 +114,7 @@ fn a_fourth_byte_that_is_no_alpha() {
     for (fourth, told) in cases {
         folder.put("sheet.bmp", &plain(fourth));
         let ended = folder.run("play sheet.bmp a.emf -o out.png --force").expect(if told { 3 } else { 0 });
-        let words = "out.png: not kept of what the sheet's file says: the fourth byte of its pixels, which is no alpha";
+        let words = "out.png: not kept of what the sheet's file says: the byte of its pixels that is no channel";
         assert_eq!(ended.err, if told { format!("lacrumont: warning: {words}\n") } else { String::new() });
         assert!(folder.get_sheet("out.png").surface.pixels.iter().all(|pixel| pixel >> 24 == 255));
     }

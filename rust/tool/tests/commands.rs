@@ -213,6 +213,14 @@ fn nothing_is_overwritten_without_force() {
     assert_ne!(folder.get("sheet.png"), sheet);
     folder.run("undo sheet.png -o sheet.png --force --journal k --all").expect(0);
     assert_eq!(folder.get("sheet.png"), sheet);
+    // A journal is not even written over by --force, and a link to nothing is no place for a file.
+    std::fs::rename(folder.path("j"), folder.path("journal.png")).unwrap();
+    for command in ["play sheet.png a.emf", "undo out.png --journal k"] {
+        let command = format!("{command} -o journal.png --force");
+        folder.run(&command).fails("journal.png is a journal and is not written over");
+    }
+    std::os::unix::fs::symlink("nowhere.png", folder.path("link.png")).unwrap();
+    folder.run("play sheet.png a.emf -o link.png --force").fails("link.png is a link to nothing");
     // A folder is no file to write.
     std::fs::create_dir(folder.path("dir.png")).unwrap();
     folder.run("play sheet.png a.emf -o dir.png --force").fails("dir.png is a folder");
@@ -281,6 +289,33 @@ fn a_full_standard_output() {
         assert_eq!(full(1, listing), format!("lacrumont: {words}"));
     }
     assert!(full(2, "play sheet.png refused.emf -o refused.png --brush 000000").ends_with(&warning));
+    // Where there was nothing to write, it is an error.
+    for listing in ["play --help", "play sheet.png one.emf --dry-run"] {
+        assert_eq!(full(1, listing), format!("lacrumont: {words}"));
+    }
+}
+
+/// What a clip cuts off is meant to be; what the sheet's end cuts off is told, with a clip too.
+#[test]
+fn half_a_layer_is_told() {
+    let folder = prepared("half_a_layer_is_told");
+    folder.put("half.emf", &emf(&[stretch_record([30, 20, 20, 20], 0xCC), stretch_record([45, 25, -20, -20], 0xCC)]));
+    let ended = folder.run("play sheet.png half.emf -o out.png").expect(3);
+    let line = |number: u32, offset: u32, words: &str| {
+        let name = "stretched DIB (EMR_STRETCHDIBITS, 0x51)";
+        format!(
+            "lacrumont: warning: half.emf: record {number} at offset {offset}: {name}: only {words} lie on the sheet\n"
+        )
+    };
+    let whole = "of its target's 400 pixels";
+    assert_eq!(ended.err, line(1, 88, &format!("100 {whole}")) + &line(2, 216, &format!("300 {whole}")));
+    for clip in ["0,0,35,25", "0,0,40,30", "-9,-9,40,30"] {
+        let ended = folder.run(&format!("play sheet.png half.emf -o out.png --force --clip {clip}")).expect(0);
+        assert_eq!(ended.err, "", "{clip}");
+    }
+    let ended = folder.run("play sheet.png half.emf -o out.png --force --clip -9,-9,42,99").expect(3);
+    let clipped = |drawn, all| format!("{drawn} of the clipped target's {all} pixels");
+    assert_eq!(ended.err, line(1, 88, &clipped(100, 240)) + &line(2, 216, &clipped(300, 340)));
 }
 
 /// A name does not make two lines of one, and does not act on a terminal.

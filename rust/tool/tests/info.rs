@@ -57,7 +57,7 @@ fn played_records_are_told_in_full() {
         blend_record([3, 4, 20, 10], 0x8040_2010),
         other_record(),
         mask_record([0, 0, 33, 30]),
-        brush_record([39, 29, -500, 500]),
+        brush_record([600, 29, -500, 500]),
     ];
     folder.put("a.emf", &emf(&records));
     let ended = folder.run("info a.emf").expect(0);
@@ -76,7 +76,7 @@ record 2 at offset 252: mask blit (EMR_MASKBLT, 0x4E), Size 184
   operation: foreground 0xF0 (PATCOPY) where the mask is 1, background 0xAA (DSTCOPY) where it is 0; uses the brush
   status 0: can be played
 record 3 at offset 436: stretched DIB (EMR_STRETCHDIBITS, 0x51), Size 80
-  Bounds 0, 0, 4095, 4095; target -500 by 500 at 39, 29
+  Bounds 0, 0, 4095, 4095; target -500 by 500 at 600, 29
   no source picture
   operation: raster operation 0xF0 (PATCOPY); uses the brush
   status 0: can be played

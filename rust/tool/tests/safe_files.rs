@@ -238,11 +238,11 @@ fn a_killed_run_and_files_changed_since() {
     let ([sheet0, journal0], [sheet1, journal1]) = (&cut.old, &cut.new);
     // The temporary picture was removed by hand, so the sheet is the old one.
     cut.put(sheet0, journal0, [None, Some(journal1)], &intent(""));
-    cut.becomes(&cut.old, "sheet.png is not what it wrote; its journal is kept as j.1", &["j.1"]);
+    cut.becomes(&cut.old, "sheet.png is not the picture of its journal, which is kept as j.1", &["j.1"]);
     assert_eq!(cut.folder.get("j.1"), *journal1);
     // A journal that is not whole follows no picture.
     cut.put(sheet1, journal0, [None, Some(&journal1[..60])], &intent(""));
-    cut.folder.run("journal sheet.png --journal j").fails("its journal is kept as j.2");
+    cut.folder.run("journal sheet.png --journal j").fails("is not the picture of its journal, which is kept as j.2");
     assert!(cut.folder.get("j") == *journal0 && cut.folder.get("sheet.png") == *sheet1);
     // A lock that names other files does not get them removed.
     cut.put(sheet0, journal0, [None, None], &intent("").replace(PICTURE, "a.emf"));
@@ -410,6 +410,18 @@ fn owners_are_kept() {
     lock.unlock().unwrap();
     run("undo out.png -o new.png --journal j").unwrap().fails("cannot write j.lock: Permission denied");
     fs::remove_file(folder.path("j.lock")).unwrap();
+    // Where everybody may replace only his own files, that is known before anything is written.
+    chown(folder.path("sheet.png"), Some(65_534), Some(65_534)).unwrap();
+    set_mode(&folder, "", 0o1777);
+    let before = folder.all();
+    for name in ["out.png", "sheet.png"] {
+        let command = format!("play out.png a.emf -o {name} --force --journal j");
+        let words =
+            if name == "out.png" { "out.png is another user's" } else { "j is another user's, in a folder where" };
+        set_mode(&folder, "out.png", 0o666);
+        run(&command).unwrap().fails(words);
+    }
+    assert_eq!(folder.all(), before);
     // A journal can be listed where no lock can be made.
     set_mode(&folder, "", 0o755);
     assert!(run("journal out.png --journal j").unwrap().expect(0).out.contains("2 plays; "));
@@ -438,4 +450,8 @@ fn leftovers_are_swept() {
     drop(living);
     let ended = folder.run("play sheet.png a.emf -o out.png --force").expect(0);
     assert_eq!(ended.err, line(".out.png.1-3.tmp"));
+    // A run was killed when its new file had both names.
+    fs::hard_link(folder.path("out.png"), folder.path(".out.png.1-4.tmp")).unwrap();
+    let ended = folder.run("play sheet.png a.emf -o out.png --force").expect(0);
+    assert_eq!(ended.err, line(".out.png.1-4.tmp"));
 }

@@ -31,8 +31,8 @@ EMR_ALPHABLEND and EMR_TRANSPARENTBLT. Other records are counted at the file's e
 the whole picture and the device for which the file was made; coordinates are taken as sheet pixels all the same.
 
 What a file sets and play does not honour (mappings, clips, brushes, other drawing) is listed as warnings, and so is a
-record that would draw nothing on any sheet. `play --dry-run` tells the same for one sheet. A file that cannot be read
-or is damaged is told on standard error; the others are still listed.
+record that would draw nothing, or only a part of its target, on any sheet. `play --dry-run` tells the same for one
+sheet and one brush. A file that cannot be read or is damaged is told on standard error; the others are still listed.
 
   --json   one JSON document with the same facts: an object whose \"files\" is an array; what is absent is null
 
@@ -55,7 +55,8 @@ struct Entry {
 }
 
 enum Verdict {
-    Playable,
+    /// With a warning where every sheet cuts it.
+    Playable(Option<String>),
     /// Accepted, but no pixel of any sheet is reached.
     Nothing(String),
     Refused(String),
@@ -70,6 +71,8 @@ const PLAYED_TYPES: &str = "this tool plays EMR_ALPHABLEND, EMR_MASKBLT and EMR_
 #[derive(Default)]
 struct Summary {
     playable: u64,
+    /// Those of them that every sheet cuts.
+    cut: u64,
     nothing: u64,
     refused: u64,
     not_played: u64,
@@ -80,7 +83,7 @@ struct Summary {
     error: Option<String>,
 }
 
-/// A listing under way. Each record is written as it is met: a file can have more than the memory holds.
+/// A listing under way, record by record.
 trait Listing {
     fn begin(&mut self, out: &mut Out);
     fn unreadable(&mut self, path: &Path, error: &str, out: &mut Out);
@@ -153,15 +156,24 @@ fn examine(listed: &Listed) -> Entry {
             Verdict::Refused(reasons::reason(record.bytes, status).unwrap_or_else(general))
         }
         Fate::Skipped => Verdict::NotPlayed,
-        Fate::Played | Fate::LeftOut => nowhere(listed).map_or(Verdict::Playable, Verdict::Nothing),
+        Fate::Played | Fate::LeftOut => on_any_sheet(listed),
     };
     Entry { number: listed.number, offset: record.offset, facts: Facts::read(record.bytes), status, verdict }
 }
 
-/// Why a record draws nothing even on the largest sheet.
-fn nowhere(listed: &Listed) -> Option<String> {
+/// What an accepted record draws on the largest sheet: all, a part, or nothing.
+fn on_any_sheet(listed: &Listed) -> Verdict {
     let largest = Area::of([0, 0, MOST_SIDE.into(), MOST_SIDE.into()]);
-    listed.reach(largest, &format!("every sheet, whose sides are at most {}", words::count(MOST_SIDE.into())))?.err()
+    let called = format!("every sheet, whose sides are at most {}", words::count(MOST_SIDE.into()));
+    let target = listed.target().map_or(0, Area::pixels);
+    match listed.reach(largest, &called) {
+        Some(Err(why)) => Verdict::Nothing(why),
+        Some(Ok(pixels)) if pixels < target => {
+            let (pixels, target) = (words::count(pixels), words::count(target));
+            Verdict::Playable(Some(format!("at most {pixels} of its target's {target} pixels lie on a sheet")))
+        }
+        _ => Verdict::Playable(None),
+    }
 }
 
 impl Summary {
@@ -171,7 +183,10 @@ impl Summary {
 
     fn add(&mut self, entry: &Entry) {
         match entry.verdict {
-            Verdict::Playable => self.playable += 1,
+            Verdict::Playable(ref cut) => {
+                self.playable += 1;
+                self.cut += u64::from(cut.is_some());
+            }
             Verdict::Nothing(_) => self.nothing += 1,
             Verdict::Refused(_) => self.refused += 1,
             Verdict::NotPlayed => self.not_played += 1,
@@ -183,7 +198,7 @@ impl Summary {
             ERROR
         } else if self.refused + self.not_played > 0 {
             REFUSED
-        } else if self.nothing > 0 || !self.warnings.is_empty() {
+        } else if self.nothing + self.cut > 0 || !self.warnings.is_empty() {
             WARNED
         } else {
             FINE
@@ -203,6 +218,7 @@ mod tests {
         let warned = Summary { warnings: vec!["x".to_string()], playable: 1, ..Summary::default() };
         assert_eq!(warned.code(), WARNED);
         assert_eq!(Summary { nothing: 1, ..Summary::default() }.code(), WARNED);
+        assert_eq!(Summary { playable: 2, cut: 1, ..Summary::default() }.code(), WARNED);
         assert_eq!(Summary { refused: 1, ..warned }.code(), REFUSED);
         let damaged = Summary { not_played: 1, error: Some("x".to_string()), ..Summary::default() };
         assert_eq!(damaged.code(), ERROR);

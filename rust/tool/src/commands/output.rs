@@ -2,6 +2,8 @@
 
 use std::io::{self, ErrorKind, Write};
 
+use crate::words::one_line;
+
 pub const FINE: u8 = 0;
 pub const ERROR: u8 = 1;
 /// A record was refused or skipped.
@@ -13,15 +15,8 @@ pub const WARNED: u8 = 3;
 #[derive(Default)]
 pub struct Out {
     failure: Option<io::Error>,
-}
-
-/// One line, whatever a file's name may hold: its control characters are escaped.
-fn one_line(words: &str) -> String {
-    let escaped = |character: char| match character.is_control() {
-        true => character.escape_default().to_string(),
-        false => character.to_string(),
-    };
-    words.chars().map(escaped).collect::<String>() + "\n"
+    /// Whether the command has written its files.
+    pub files_written: bool,
 }
 
 impl Out {

@@ -12,7 +12,7 @@ use super::emf_files;
 use super::output::{complain, Out, FINE};
 use super::playing::Playing;
 use super::recovery;
-use super::results::{write_both, Before, JournalFile, Picture};
+use super::results::{check_out, write_both, Before, JournalFile, Picture};
 use super::tally::Tally;
 use crate::journal::{Journal, Refusal};
 use crate::lock::Lock;
@@ -36,7 +36,8 @@ standard error, and so is whatever else in a file is not honoured: mappings, cli
 file is an error: then nothing is written.
 
   -o OUT           the file to write, .png or .bmp
-  --clip L,T,R,B   only pixels inside are drawn; right and bottom are not included; without it, the whole sheet
+  --clip L,T,R,B   only pixels inside are drawn; right and bottom are not included; without it, the whole sheet. What
+                   it cuts off is not warned about, what the sheet's end cuts off is
   --brush RRGGBB   the brush's colour, six hexadecimal digits; without it 000000, which is warned about where a record
                    uses it
   --only N[,N]     plays only these of the file's bitmap records, numbered from 1 as info lists them
@@ -117,6 +118,7 @@ pub fn run(arguments: &[OsString], out: &mut Out) -> Result<u8, String> {
     }
     let Playing { sheet, journal, mut tally, out, .. } = playing;
     let warnings = asked.write(sheet, &journal, before, held_out, lock, &mut progress)?;
+    out.files_written = true;
     warnings.iter().for_each(|words| tally.warn(words));
     asked.end(&journal, tally, out)
 }
@@ -168,13 +170,14 @@ impl Asked {
         if let Some(journal) = &self.journal {
             if let Some(out) = &self.out {
                 both(journal, out, "the journal and OUT")?;
+                both(&files::with_ending(journal, ".lock"), out, "the journal's lock and OUT")?;
             }
             both(journal, &self.sheet, "the journal and the sheet")?;
             for emf in &self.emfs {
                 both(journal, emf, "the journal and an EMF file")?;
             }
         }
-        self.out.as_ref().map_or(Ok(()), |out| files::check_free(out, self.force))
+        self.out.as_ref().map_or(Ok(()), |out| check_out(out, self.force))
     }
 
     /// The records to play, each with its file. All that is not honoured is told and counted.

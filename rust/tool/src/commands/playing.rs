@@ -62,19 +62,25 @@ impl Playing<'_> {
         self.tally.warn(&format!("{place}: accepted, but it draws nothing: {why}"));
     }
 
-    /// Half a layer is told, unless a clip was asked for.
+    /// Half a layer is told: what the clip leaves of the target, and the sheet does not.
     fn cut(&mut self, place: &str, listed: &Listed, pixels: u32) {
-        let whole = listed.target().map_or(0, Area::pixels);
-        if self.clip.is_none() && u64::from(pixels) < whole {
-            let (pixels, whole) = (words::count(pixels.into()), words::count(whole));
-            self.tally.warn(&format!("{place}: only {pixels} of its target's {whole} pixels lie on the sheet"));
+        let clipped = |target: Area| self.clip.map_or(target, |clip| target.meet(Area::clip(clip)));
+        let wanted = listed.target().map_or(0, |target| clipped(target).pixels());
+        if u64::from(pixels) < wanted {
+            let of = if self.clip.is_some() { "the clipped target's" } else { "its target's" };
+            let (pixels, wanted) = (words::count(pixels.into()), words::count(wanted));
+            self.tally.warn(&format!("{place}: only {pixels} of {of} {wanted} pixels lie on the sheet"));
         }
     }
 
     fn reach(&self, listed: &Listed) -> Option<Result<u64, String>> {
-        let surface = &self.sheet.surface;
-        let clip = Area::cut(self.clip(), surface.width, surface.height);
-        listed.reach(clip, &format!("the clip {}, {}, {}, {}", clip.left, clip.top, clip.right, clip.bottom))
+        let (width, height) = (self.sheet.surface.width, self.sheet.surface.height);
+        let clip = Area::cut(self.clip(), width, height);
+        let called = match self.clip {
+            Some(_) => format!("the clip {}, {}, {}, {}", clip.left, clip.top, clip.right, clip.bottom),
+            None => format!("the sheet of {width} by {height} pixels"),
+        };
+        listed.reach(clip, &called)
     }
 
     fn clip(&self) -> Clip {

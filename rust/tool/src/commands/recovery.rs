@@ -96,7 +96,7 @@ fn settle(journal: &Path, out: &Path, intent: &Intent, lock: &mut Lock) -> Resul
     }
     let kept = files::free_name(journal);
     put(&kept)?;
-    complain(&format!("{} is not what it wrote; its journal is kept as {}", out.display(), kept.display()));
+    complain(&format!("{} is not the picture of its journal, which is kept as {}", out.display(), kept.display()));
     Ok(())
 }
 

@@ -42,6 +42,15 @@ pub struct JournalFile<'a> {
     pub lock: &'a mut Lock,
 }
 
+/// A file that is there is only written over by --force, and a journal not even so.
+pub fn check_out(out: &Path, force: bool) -> Result<(), String> {
+    files::check_free(out, force)?;
+    if files::exists(out) && Journal::is_one(out)? {
+        return Err(format!("{} is a journal and is not written over", out.display()));
+    }
+    Ok(())
+}
+
 /// Both files are written whole before either gets its name, so that a full disk changes neither. Gives what is to be
 /// warned about.
 pub fn write_both(
@@ -111,8 +120,8 @@ fn give_names(
         // The picture is there now, and only this journal can undo it.
         journal.keep();
         lock.leave();
-        let kept = journal.temporary().display();
-        return Err(format!("{words}; it is kept as {kept}, and the next run will try again"));
+        let (out, kept) = (picture.target().display(), journal.temporary().display());
+        return Err(format!("{out} is written, but {words}; it is kept as {kept}, and the next run will try again"));
     }
     if let Some(name) = kept {
         complain(&format!("the journal that was there is kept as {}", name.display()));

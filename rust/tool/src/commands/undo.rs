@@ -8,7 +8,7 @@ use face::constants::NOTHING;
 use super::arguments::{Arguments, Known};
 use super::output::{complain, Out, FINE, WARNED};
 use super::recovery;
-use super::results::{write_both, Before, JournalFile, Picture};
+use super::results::{check_out, write_both, Before, JournalFile, Picture};
 use crate::journal::Journal;
 use crate::progress::Progress;
 use crate::sheet::Sheet;
@@ -66,6 +66,7 @@ pub fn run(arguments: &[OsString], out: &mut Out) -> Result<u8, String> {
     let picture = Picture { sheet: &sheet, from: &asked.sheet, out: &asked.out, force: asked.force, held };
     let file = JournalFile { journal: &journal, path: &asked.journal, before: Before::Continued, lock: &mut lock };
     let warnings: Vec<String> = lost.into_iter().chain(write_both(picture, Some(file), &mut progress)?).collect();
+    out.files_written = true;
     warnings.iter().for_each(|words| complain(&format!("warning: {words}")));
     out.line(&format!(
         "{} taken back; wrote {}; journal {} holds {}",
@@ -104,7 +105,7 @@ impl Asked {
                 return Err(format!("{} cannot be the journal and {what} at once", self.journal.display()));
             }
         }
-        files::check_free(&self.out, self.force)?;
+        check_out(&self.out, self.force)?;
         files::check_replaceable(&self.journal)
     }
 

@@ -152,7 +152,7 @@ FILES = {
     "inverted-bounds": [stretch(HERE, bounds=INVERTED), stretch(HERE, bounds=INVERTED)],
     "bounds-outside": [stretch(HERE, bounds=(100, 100, 200, 200)), stretch(HERE)],
     "target-outside": [stretch((100, 4, 20, 10)), blend((3, -10, 20, 10))],
-    "half-outside": [stretch((30, 20, 20, 20)), stretch(HERE)],
+    "half-outside": [stretch((30, 20, 20, 20)), stretch(HERE), stretch((-5, 3, 20, 20))],
     # Mappings.
     "window-mapping": [map_mode(8), window(800, 600), viewport(40, 30), stretch((0, 0, 800, 600))],
     "window-changed": [
@@ -170,6 +170,8 @@ FILES = {
     "scaled-window": [map_mode(8), window(40, 30), viewport(40, 30), record(32, 2, 1, 3, 1), stretch(HERE)],
     # Extents of 0 are not taken; the metric modes leave their own ones behind.
     "window-of-nothing": [map_mode(8), window(800, 600), viewport(40, 30), window(0, 0), viewport(0, 0), stretch(HERE)],
+    "metric-extents": [map_mode(6), window(7, 7), viewport(7, 7), map_mode(8), stretch(HERE)],
+    "metric-viewport": [map_mode(6), map_mode(8), window(1, 1), stretch(HERE)],
     "metric-before": [map_mode(8), window(100, 100), viewport(100, 100), map_mode(2), map_mode(8), stretch(HERE)],
     "twips": [map_mode(6), stretch(HERE)],
     "anisotropic": [map_mode(8), stretch(HERE)],

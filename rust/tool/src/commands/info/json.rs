@@ -82,7 +82,7 @@ fn object<const N: usize>(members: [(&'static str, Value); N]) -> Value {
 fn record(entry: &Entry) -> Value {
     let facts = &entry.facts;
     let (verdict, reason) = match &entry.verdict {
-        Verdict::Playable => ("can be played", None),
+        Verdict::Playable(cut) => ("can be played", cut.as_deref()),
         Verdict::Nothing(why) => ("would draw nothing", Some(&why[..])),
         Verdict::Refused(reason) => ("would be refused", Some(&reason[..])),
         Verdict::NotPlayed => ("not played", Some(PLAYED_TYPES)),

@@ -39,11 +39,13 @@ impl Listing for Text {
             out.line(&format!("  {line}"));
         }
         let status = entry.status;
-        if let Verdict::Nothing(why) = &entry.verdict {
-            out.line(&format!("  warning: it draws nothing on any sheet: {why}"));
+        match &entry.verdict {
+            Verdict::Nothing(why) => out.line(&format!("  warning: it draws nothing on any sheet: {why}")),
+            Verdict::Playable(Some(cut)) => out.line(&format!("  warning: {cut}")),
+            _ => {}
         }
         out.line(&match &entry.verdict {
-            Verdict::Playable => format!("  {}", words::numbered(status)),
+            Verdict::Playable(_) => format!("  {}", words::numbered(status)),
             Verdict::Nothing(_) => format!("  status {status}: accepted, but it draws nothing"),
             Verdict::Refused(reason) => format!("  status {status}: {reason}"),
             Verdict::NotPlayed => format!("  not played: {PLAYED_TYPES}"),
