@@ -52,7 +52,7 @@ pub fn check_replaceable(path: &Path) -> Result<(), String> {
         return Err(format!("{name} is read-only and is not replaced"));
     }
     if is_guarded(path, &there) {
-        return Err(format!("{name} is another user's, in a folder where everybody may replace only his own files"));
+        return Err(format!("{name} is another user's, in a folder where all may replace only their own files"));
     }
     Ok(())
 }
@@ -61,7 +61,7 @@ pub fn check_replaceable(path: &Path) -> Result<(), String> {
 fn is_guarded(path: &Path, there: &Metadata) -> bool {
     const STICKY: u32 = 0o1000;
     let folder = resolved(path).and_then(|path| folder(&path).metadata());
-    // The process's own entry there is its user's.
+    // /proc/self belongs to the user of this process.
     match (folder, fs::metadata("/proc/self")) {
         (Ok(folder), Ok(own)) => {
             let user = own.uid();

@@ -6,9 +6,7 @@
 
 pub mod bytes;
 pub mod crc;
-pub mod json;
 pub mod library;
-pub mod progress;
 pub mod record_types;
 pub mod words;
 
@@ -17,6 +15,8 @@ pub mod emf_header;
 pub mod facts;
 pub mod file_kinds;
 pub mod files;
+pub mod json;
+pub mod progress;
 pub mod reach;
 pub mod sheet;
 
