@@ -1,5 +1,6 @@
 // Makes the calls that a script lists, and prints a line for each. The script comes as standard input. Any player that reads
 // the same script must print the same text.
+#![tactic(auto)]
 mod calls;
 mod frame;
 mod head;

@@ -1,6 +1,7 @@
 // Runs document 01's "Numbers to check by" and the records of the file `stdin` through the library's own functions. Each
 // line says what was asked, what came and what should come; the file `stdout` beside src/ holds what document 01 says.
 // tools/vector_records.py writes both files.
+#![tactic(auto)]
 mod line;
 mod numbers;
 mod plays;

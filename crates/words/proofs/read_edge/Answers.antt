@@ -1,0 +1,9 @@
+-- Two bytes above the lower two.
+use native.Mathlib.Omega.{arith}
+use Rattle.words.specs.Bytes.{le}
+use borrow.Author.Rules.{rules}
+use Rattle.words.proofs.read_edge.Goals as goal
+
+pub returns : goal.returns
+unfolding le
+returns c = omega arith
