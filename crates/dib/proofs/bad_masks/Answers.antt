@@ -8,7 +8,7 @@ use Rattle.dib.proofs.bad_masks.Goals as goal
 
 pub bad_channels-requires : goal.bad_channels-requires
 unfolding bad_masks
-bad_channels-requires κs = let s = c.before in (depth_bounds s.args.h.bits (sound s.args.h s.requires).depth).1
+bad_channels-requires c = let s = c in (depth_bounds s.args.h.bits (sound s.args.h s.requires).depth).1
 
 pub returns : goal.returns
 unfolding bad_masks

@@ -18,10 +18,10 @@ returns-then-bad_header c =
     rw t
 
 pub bad_masks-requires : goal.bad_masks-requires
-bad_masks-requires κs = passed_fields _ _ (sym c.before.bad-header.ensures ∙ c.if1.false)
+bad_masks-requires c = passed_fields _ _ (sym c.bad_header.ensures ∙ c.if-bad_header.false)
 
 pub bits_needed-requires : goal.bits_needed-requires
-bits_needed-requires κs = passed_fields _ _ (sym c.before.before.bad-header.ensures ∙ c.before.if1.false)
+bits_needed-requires c = passed_fields _ _ (sym c.bad_header.ensures ∙ c.if-bad_header.false)
 
 pub returns : goal.returns
 unfolding dib_status
