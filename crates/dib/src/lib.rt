@@ -7,7 +7,7 @@ ghost use Rattle.dib.specs.HeaderStatus.{bad_fields, bad_header, bad_masks, bits
 mod limits;
 
 // The masks of a pixel's channels. An alpha of 0 is none.
-#[derive(Drop)]
+#[derive(Clone, Copy)]
 pub struct Masks {
     pub red: u32,
     pub green: u32,
@@ -16,7 +16,7 @@ pub struct Masks {
 }
 
 // The header's numbers as written: width and height in two's complement. A mask is 0 where the header has none.
-#[derive(Drop)]
+#[derive(Clone, Copy)]
 pub struct Header {
     pub size: u32,
     pub width: u32,
