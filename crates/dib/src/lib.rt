@@ -1,5 +1,6 @@
 // A DIB's header: read to its numbers, and judged (statuses 8, 9 and 10).
 #![tactic(auto)]
+
 ghost use Rattle.std.specs.Prelude.{◌≡◌, false, ◌<◌, length};
 ghost use Rattle.dib.specs.Header.{masks_at, header_of, top_down, table_start, entries};
 ghost use Rattle.dib.specs.HeaderStatus.{bad_fields, bad_header, bad_masks, bits_needed, dib_status};

@@ -1,5 +1,6 @@
 // A record's frame: the table of types, its fixed part as fields, and statuses 3 to 7, with 21 between 6 and 7.
 #![tactic(auto)]
+
 use region::Rectangle;
 
 pub mod fixed;

@@ -7,8 +7,7 @@ use lib.Dec.{T}
 use lib.Ieee.{Float, nan, inf, fin, binary32, of_bits, nan_bits, is_nan, div}
 use lib.Ieee.Bits.{nan_bits_is, nan_bits_above}
 use borrow.Author.Rules.{rules}
-use Rattle.emr.proofs.xform.float.Statement.{statement}
-use Rattle.emr.proofs.xform.float.Tie as tie
+use Rattle.emr.proofs.xform.float.Goals as goal
 
 only_nan : (x : Float) → is_nan x ≡ true → x ≡ nan
 unfolding is_nan
@@ -23,15 +22,9 @@ nan_above n h = only_nan _ (sym (nan_bits_is binary32 n) ∙ (nan_bits_above bin
 no_nan : (n : ℕ) → n % 2147483648 ≤ 2139095040 → T (not (nan_bits binary32 n))
 no_nan n h = subst (λ (b : Bool). T (not b)) (sym (nan_bits_above binary32 n ∙ le-ltb _ _ h)) tt
 
-float_from_bits_result : tie.Need-float-from-bits-result
-float_from_bits_result c = no_nan _ c.if1.false
+pub float_from_bits-result : goal.float_from_bits-result
+float_from_bits-result c = no_nan _ c.if-x-gt2139095040.false
 
-returns : tie.Need-returns
+pub returns-then-x-gt2139095040 : goal.returns-then-x-gt2139095040
 unfolding div of_bits
-returns c = sym (nan_above _ c.if1.true) ∙ ap (of_bits binary32) c.before.read_u32.ensures
-
-returns_2 : tie.Need-returns-2
-returns_2 c = ap (of_bits binary32) c.before.read_u32.ensures
-
-pub float_spec : {M : Type 1} → statement M
-float_spec = tie.close (tie.spec (λ c κs. search rules) float_from_bits_result returns returns_2)
+returns-then-x-gt2139095040 c = sym (nan_above _ c.if-x-gt2139095040.true) ∙ ap (of_bits binary32) c.read_u32-x.ensures
