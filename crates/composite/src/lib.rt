@@ -1,6 +1,7 @@
 // A row of a play: one loop for each rule, which saves the old pixel and writes the new. The rule is chosen once a row: a choice
 // inside the loop would keep it from being vectorised.
 #![tactic(auto)]
+
 ghost use Rattle.std.specs.Prelude.{◌≡◌, ◌+◌, ◌*◌, ◌≤◌, [], length};
 ghost use Rattle.journal.specs.Records.{stride};
 ghost use Rattle.composite.specs.Paints.{painted_by, Painted};

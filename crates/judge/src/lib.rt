@@ -1,5 +1,6 @@
 // The whole check of a record: accepted as one value, or refused with its status. Every header is read once, the type is asked for once.
 #![tactic(auto)]
+
 ghost use Rattle.std.specs.Prelude.{◌≡◌};
 ghost use Rattle.judge.specs.Record.{header_in, picture_with, record_with};
 ghost use Rattle.judge.specs.Check.{picture_status, bad_geometry, call_status, later_status, status_of, settled, check_of, status_in};
