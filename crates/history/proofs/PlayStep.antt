@@ -13,7 +13,7 @@ use Rattle.journal.specs.Records.{stride, Entry, bytes_of}
 use Rattle.journal.proofs.RecordLaws.{length_bytes}
 use Rattle.journal.proofs.UndoLaws.{front_stored}
 use Rattle.judge.specs.Check.{status_of}
-use Rattle.memory.specs.Memory.{Memory, outcome, settle, records}
+use Rattle.memory.specs.Memory.{Memory, outcome, settle}
 use Rattle.memory.specs.Playing.{drawn_by, appended, played, full_status, play_of}
 use Rattle.memory.proofs.PlayingLaws.{length_appended}
 use Rattle.player.specs.Calls.{Play, work, play_outcome}

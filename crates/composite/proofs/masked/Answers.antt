@@ -1,10 +1,10 @@
 -- Each turn saves the old pixel and writes the new one, by the mask's bit.
-use Prim.Native.Nat.{ℕ, ◌-◌}
+use Prim.Native.Nat.{ℕ}
 use native.Mathlib.Omega.{arith}
-use lib.ListN.{length, get_or}
+use lib.ListN.{get_or}
 use Rattle.composite.specs.declared.Rule.TheVariants.{Masked}
-use Rattle.composite.specs.Paints.{painted_by, row_paint}
-use Rattle.journal.proofs.RowLaws.{Row, row_begins, row_ends}
+use Rattle.composite.specs.Paints.{painted_by}
+use Rattle.journal.proofs.RowLaws.{row_ends}
 use Rattle.composite.proofs.TurnLaws.{turns}
 use Rattle.composite.proofs.masked.Goals as goal
 

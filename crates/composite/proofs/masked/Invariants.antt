@@ -1,11 +1,9 @@
 -- Each turn saves the old pixel and writes the new one, by the mask's bit.
-use Prim.Native.Nat.{ℕ, ◌-◌}
-use native.Mathlib.Omega.{arith}
-use lib.ListN.{length, get_or}
+use Prim.Native.Nat.{◌-◌}
+use lib.ListN.{length}
 use Rattle.composite.specs.declared.Rule.TheVariants.{Masked}
-use Rattle.composite.specs.Paints.{painted_by, row_paint}
-use Rattle.journal.proofs.RowLaws.{Row, row_begins, row_ends}
-use Rattle.composite.proofs.TurnLaws.{turns}
+use Rattle.composite.specs.Paints.{row_paint}
+use Rattle.journal.proofs.RowLaws.{Row}
 use Rattle.composite.proofs.masked.Given as goal
 
 abbrev pub invariant-loop-i : goal.invariant-loop-i

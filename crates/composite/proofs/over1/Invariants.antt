@@ -1,13 +1,10 @@
 -- Each turn saves the old pixel and writes the new one.
-use Prim.Native.Nat.{ℕ, ◌-◌}
-use native.Mathlib.Omega.{arith}
-use lib.ListN.{length, get_or}
+use Prim.Native.Nat.{◌-◌}
+use lib.ListN.{length}
 use Rattle.composite.specs.declared.Rule.TheVariants.{Blend1}
 use Rattle.composite.specs.Paints.{row_paint}
 use mathlib.Core.List.{[]}
-use Rattle.pixel.specs.Blend.{over1}
-use Rattle.journal.proofs.RowLaws.{Row, row_begins, row_ends}
-use Rattle.composite.proofs.TurnLaws.{turns}
+use Rattle.journal.proofs.RowLaws.{Row}
 use Rattle.composite.proofs.over1.Given as goal
 
 abbrev pub invariant-loop-i : goal.invariant-loop-i

@@ -1,12 +1,9 @@
 -- Each turn saves the old pixel and writes the new one.
-use Prim.Native.Nat.{ℕ, ◌-◌}
+use Prim.Native.Nat.{ℕ}
 use native.Mathlib.Omega.{arith}
-use lib.ListN.{length, get_or}
-use Rattle.composite.specs.declared.Rule.TheVariants.{Raster}
-use Rattle.composite.specs.Paints.{row_paint}
-use mathlib.Core.List.{[]}
+use lib.ListN.{get_or}
 use Rattle.pixel.specs.Raster.{raster_pixel}
-use Rattle.journal.proofs.RowLaws.{Row, row_begins, row_ends}
+use Rattle.journal.proofs.RowLaws.{row_ends}
 use Rattle.composite.proofs.TurnLaws.{turns}
 use Rattle.composite.proofs.raster.Goals as goal
 

@@ -3,7 +3,6 @@ use mathlib.Core.Path.{ap, ◌∙◌}
 use mathlib.Core.Bool.{not, ◌||◌}
 use lib.Dec.{eqb}
 use Rattle.dib.specs.HeaderStatus.{bad_fields, bad_extent}
-use borrow.Author.Rules.{rules}
 use Rattle.dib.proofs.bad_fields.Goals as goal
 
 pub returns : goal.returns

@@ -3,7 +3,6 @@ use Prim.Native.Nat.{◌+◌, ◌*◌}
 use mathlib.Core.Bool.{◌||◌}
 use lib.Dec.{ltb}
 use Rattle.dib.specs.HeaderStatus.{bad_header}
-use borrow.Author.Rules.{rules}
 use Rattle.dib.proofs.bad_header.Goals as goal
 
 pub returns : goal.returns

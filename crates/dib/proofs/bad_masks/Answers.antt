@@ -3,7 +3,6 @@ use mathlib.Core.Bool.{◌&&◌, ◌||◌}
 use Rattle.dib.specs.Header.{has_masks}
 use Rattle.dib.specs.HeaderStatus.{bad_masks}
 use Rattle.dib.proofs.HeaderLaws.{sound, depth_bounds}
-use borrow.Author.Rules.{rules}
 use Rattle.dib.proofs.bad_masks.Goals as goal
 
 pub bad_channels-requires : goal.bad_channels-requires

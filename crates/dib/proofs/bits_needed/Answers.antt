@@ -4,7 +4,6 @@ use mathlib.Core.Path.{ap₂}
 use Prim.Native.Nat.{◌*◌}
 use Rattle.dib.specs.HeaderStatus.{bits_needed}
 use Rattle.dib.proofs.HeaderLaws.{bits_small}
-use borrow.Author.Rules.{rules}
 use Rattle.dib.proofs.bits_needed.Goals as goal
 
 pub overflow_mul-result : goal.overflow_mul-result

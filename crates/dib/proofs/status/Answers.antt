@@ -7,7 +7,6 @@ use mathlib.Core.Path.{◌≡◌, ◌∙◌, sym, ap}
 use mathlib.Core.Bool.{true, false}
 use Rattle.dib.specs.HeaderStatus.{bad_header, dib_status}
 use Rattle.dib.proofs.HeaderLaws.{passed_fields}
-use borrow.Author.Rules.{rules}
 use Rattle.dib.proofs.status.Goals as goal
 
 pub returns-then-bad_header : goal.returns-then-bad_header

@@ -2,7 +2,6 @@
 use native.Mathlib.Omega.{arith}
 use Rattle.dib.specs.Header.{entries}
 use Rattle.dib.proofs.HeaderLaws.{full_table}
-use borrow.Author.Rules.{rules}
 use Rattle.dib.proofs.table_entries.Goals as goal
 
 pub returns : goal.returns

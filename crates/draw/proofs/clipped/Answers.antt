@@ -1,7 +1,5 @@
 -- A target without columns draws nothing; another lies on the surface, and its buffers are long enough by the test.
-use native.Mathlib.Omega.{arith}
 use Rattle.draw.proofs.ReadyLaws.{none_drawn, none_saved}
-use borrow.Author.Rules.{rules}
 use Rattle.draw.proofs.clipped.Goals as goal
 
 pub returns-then-p-eq0 : goal.returns-then-p-eq0

@@ -1,10 +1,5 @@
 -- The columns are filled as far as the row goes, which is what the rows ask for.
-use mathlib.Core.Path.{sym}
-use native.Mathlib.Omega.{arith}
-use lib.Seq.{length-take-le}
-use Rattle.meaning.proofs.FitLaws.{extents}
 use Rattle.draw.proofs.ReadyLaws.{mapped}
-use borrow.Author.Rules.{rules}
 use Rattle.draw.proofs.mapped.Goals as goal
 
 pub rows-requires-clause-mapped : goal.rows-requires-clause-mapped

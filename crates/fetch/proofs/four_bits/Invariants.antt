@@ -1,10 +1,8 @@
 -- Each turn looks up one more column's half byte in the palette.
 use Prim.Native.Nat.{◌-◌}
 use lib.ListN.{length}
-use Rattle.sample.specs.Stored.{stored}
-use Rattle.sample.specs.Colour.{shown}
 use Rattle.fetch.specs.Fetched.{no_masks}
-use Rattle.fetch.proofs.FetchLaws.{Fetching, fetch_turns, fetching}
+use Rattle.fetch.proofs.FetchLaws.{Fetching}
 use Rattle.fetch.proofs.four_bits.Given as goal
 
 abbrev pub invariant-loop-i : goal.invariant-loop-i

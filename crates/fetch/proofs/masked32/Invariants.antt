@@ -2,9 +2,7 @@
 use Prim.Native.Nat.{◌-◌}
 use mathlib.Core.List.{[]}
 use lib.ListN.{length}
-use Rattle.sample.specs.Stored.{stored}
-use Rattle.sample.specs.Colour.{shown}
-use Rattle.fetch.proofs.FetchLaws.{Fetching, fetch_turns, fetching}
+use Rattle.fetch.proofs.FetchLaws.{Fetching}
 use Rattle.fetch.proofs.masked32.Given as goal
 
 abbrev pub invariant-loop-i : goal.invariant-loop-i

@@ -1,7 +1,6 @@
 -- The test of each branch gives the depth, at which its loop fetches what is asked for; the last branch has the depth that is left.
 use mathlib.Core.Path.{◌≡◌}
 use Rattle.fetch.proofs.FetchLaws.{last_depth, depths}
-use borrow.Author.Rules.{rules}
 use Rattle.fetch.proofs.row.Goals as goal
 
 pub returns-then-bits-eq1 : goal.returns-then-bits-eq1

@@ -1,7 +1,6 @@
 -- Each turn makes one call and leaves the rest of the list, so that after the last every answer is the definition's.
-use Prim.Native.Nat.{◌-◌}
 use native.Mathlib.Omega.{arith}
-use Rattle.history.proofs.LoopLaws.{Running, running_begins, running_stands, running_turns, running_memory, running_answers}
+use Rattle.history.proofs.LoopLaws.{running_stands, running_turns, running_memory, running_answers}
 use Rattle.history.proofs.all.Goals as goal
 
 pub one-step-requires : goal.one-step-requires

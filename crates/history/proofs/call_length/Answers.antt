@@ -1,5 +1,4 @@
 -- By the tests: 4 bytes for an undo, and for a play as many as its record says, if they stand whole.
-use borrow.Author.Rules.{rules}
 use native.Mathlib.Omega.{arith}
 use Rattle.history.proofs.CallLaws.{length_short, length_undo, length_other, length_long, length_play}
 use Rattle.history.proofs.call_length.Goals as goal

@@ -1,8 +1,7 @@
 -- A list that is well formed is run call by call; else nothing is touched.
 use native.Mathlib.Omega.{arith}
 use Rattle.history.specs.Lists.{Words32}
-use Rattle.history.proofs.RunLaws.{run_limits, run_malformed, run_formed, run_full, run_done}
-use borrow.Author.Rules.{rules}
+use Rattle.history.proofs.RunLaws.{run_limits, run_malformed, run_full, run_done}
 use Rattle.history.proofs.run.Goals as goal
 
 pub returns-then-status-ne0 : goal.returns-then-status-ne0

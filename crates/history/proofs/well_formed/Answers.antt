@@ -1,8 +1,5 @@
 -- The list is walked by its calls' lengths, and ends where the definition's walk ends.
-use mathlib.Core.Path.{◌≡◌, refl}
 use native.Mathlib.Omega.{arith}
-use borrow.Author.Rules.{rules}
-use Rattle.history.specs.Run.{well_formed}
 use Rattle.history.proofs.CallLaws.{call_inside}
 use Rattle.history.proofs.LoopLaws.{formed_end, formed_not, formed_more}
 use Rattle.history.proofs.well_formed.Goals as goal

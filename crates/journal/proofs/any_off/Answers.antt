@@ -1,7 +1,5 @@
 -- Each turn tests one record, and what is left decides as all did.
-use Prim.Native.Nat.{◌-◌}
-use native.Mathlib.Omega.{arith}
-use Rattle.journal.proofs.RestoreLaws.{Tested, tested_none, tested_off, tested_one, tested_all}
+use Rattle.journal.proofs.RestoreLaws.{tested_off, tested_one, tested_all}
 use Rattle.journal.proofs.any_off.Goals as goal
 
 pub returns-then-width-first : goal.returns-then-width-first

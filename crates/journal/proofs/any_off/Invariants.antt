@@ -1,7 +1,6 @@
 -- Each turn tests one record, and what is left decides as all did.
 use Prim.Native.Nat.{◌-◌}
-use native.Mathlib.Omega.{arith}
-use Rattle.journal.proofs.RestoreLaws.{Tested, tested_none, tested_off, tested_one, tested_all}
+use Rattle.journal.proofs.RestoreLaws.{Tested}
 use Rattle.journal.proofs.any_off.Given as goal
 
 abbrev pub invariant-loop-i : goal.invariant-loop-i

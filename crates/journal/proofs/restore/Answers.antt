@@ -2,7 +2,7 @@
 use Prim.Native.Nat.{◌+◌, ◌*◌, ◌<◌}
 use lib.ListN.{length}
 use native.Mathlib.Omega.{arith}
-use Rattle.journal.proofs.RestoreLaws.{Restoring, restoring_none, restoring_on, restoring_one, restoring_all}
+use Rattle.journal.proofs.RestoreLaws.{restoring_on, restoring_one, restoring_all}
 use Rattle.journal.proofs.restore.Goals as goal
 
 pub offset_bounds-surface-y : goal.offset_bounds-surface-y

@@ -1,8 +1,5 @@
 -- Each turn restores the last record that is left, so that the first of a pixel's records comes last.
-use Prim.Native.Nat.{◌+◌, ◌*◌, ◌<◌}
-use lib.ListN.{length}
-use native.Mathlib.Omega.{arith}
-use Rattle.journal.proofs.RestoreLaws.{Restoring, restoring_none, restoring_on, restoring_one, restoring_all}
+use Rattle.journal.proofs.RestoreLaws.{Restoring}
 use Rattle.journal.proofs.restore.Given as goal
 
 abbrev pub invariant-loop-i : goal.invariant-loop-i

@@ -3,7 +3,6 @@ use mathlib.Core.Path.{ap, ◌∙◌}
 use mathlib.Core.Bool.{◌&&◌, ◌||◌}
 use Rattle.judge.specs.Geometry.{bad_source}
 use Rattle.judge.specs.Check.{bad_geometry}
-use borrow.Author.Rules.{rules}
 use Rattle.judge.proofs.bad_geometry.Goals as goal
 
 pub returns : goal.returns

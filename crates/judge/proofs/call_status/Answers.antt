@@ -2,7 +2,6 @@
 use mathlib.Core.Path.{◌∙◌}
 use Rattle.words.specs.Status.{given}
 use Rattle.judge.specs.Check.{call_status}
-use borrow.Author.Rules.{rules}
 use Rattle.judge.proofs.call_status.Goals as goal
 
 pub returns : goal.returns

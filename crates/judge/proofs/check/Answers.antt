@@ -1,6 +1,5 @@
 -- Each call's answer is its definition of what the calls before it answered.
 use Rattle.judge.proofs.CheckLaws.{check_is}
-use borrow.Author.Rules.{rules}
 use Rattle.judge.proofs.check.Goals as goal
 
 pub returns : goal.returns

@@ -2,7 +2,6 @@
 use mathlib.Core.Path.{◌∙◌}
 use Rattle.words.specs.Status.{or_else, lowest}
 use Rattle.judge.specs.Check.{dibs_status, later_status}
-use borrow.Author.Rules.{rules}
 use Rattle.judge.proofs.later_status.Goals as goal
 
 pub returns : goal.returns

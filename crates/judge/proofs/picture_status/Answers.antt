@@ -3,7 +3,6 @@ use mathlib.Core.Path.{ap, ◌∙◌}
 use mathlib.Core.Bool.{cond}
 use Prim.Native.Nat.{ℕ}
 use Rattle.judge.specs.Check.{picture_status}
-use borrow.Author.Rules.{rules}
 use Rattle.judge.proofs.picture_status.Goals as goal
 
 pub returns : goal.returns

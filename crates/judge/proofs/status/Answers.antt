@@ -1,6 +1,5 @@
 -- The case that was met is the check's answer, and its number is the status.
 use Rattle.judge.proofs.CheckLaws.{number_of}
-use borrow.Author.Rules.{rules}
 use Rattle.judge.proofs.status.Goals as goal
 
 pub returns-in-Accepted : goal.returns-in-Accepted

@@ -2,7 +2,6 @@
 use mathlib.Core.Path.{◌∙◌}
 use Rattle.words.specs.Status.{given}
 use Rattle.memory.specs.Memory.{journal_status}
-use borrow.Author.Rules.{rules}
 use Rattle.memory.proofs.journal_status.Goals as goal
 
 pub returns : goal.returns

@@ -2,7 +2,6 @@
 use mathlib.Core.Path.{◌∙◌}
 use Rattle.words.specs.Status.{or_else}
 use Rattle.memory.specs.Memory.{limits}
-use borrow.Author.Rules.{rules}
 use Rattle.memory.proofs.status.Goals as goal
 
 pub returns : goal.returns

@@ -2,7 +2,6 @@
 use mathlib.Core.Path.{◌∙◌}
 use Rattle.words.specs.Status.{given}
 use Rattle.memory.specs.Memory.{surface_status}
-use borrow.Author.Rules.{rules}
 use Rattle.memory.proofs.surface_status.Goals as goal
 
 pub returns : goal.returns

@@ -7,7 +7,6 @@ use Rattle.words.proofs.ChoiceLaws.{cond_true, cond_false}
 use Rattle.dib.specs.HeaderStatus.{bad_header}
 use Rattle.picture.specs.Shown.{picture_palette, header_palette}
 use Rattle.picture.proofs.PictureRowLaws.{length_header}
-use borrow.Author.Rules.{rules}
 use Rattle.picture.proofs.palette.Goals as goal
 
 pub header_palette-requires : goal.header_palette-requires

@@ -3,7 +3,6 @@ use native.Mathlib.Omega.{arith}
 use Rattle.memory.proofs.LimitLaws.{passed}
 use Rattle.draw.proofs.ReadyLaws.{ready}
 use Rattle.player.proofs.PlayLaws.{pixels_few, play_full, play_drawn}
-use borrow.Author.Rules.{rules}
 use Rattle.player.proofs.accepted.Goals as goal
 
 pub overflow_mul-pixels : goal.overflow_mul-pixels

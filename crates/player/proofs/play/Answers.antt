@@ -2,7 +2,6 @@
 use mathlib.Core.Path.{sym, ◌∙◌}
 use Rattle.player.proofs.PlayLaws.{play_limits, play_refused, play_accepted}
 use Rattle.judge.proofs.AcceptedLaws.{accepted}
-use borrow.Author.Rules.{rules}
 use Rattle.player.proofs.play.Goals as goal
 
 pub returns-then-status-ne0 : goal.returns-then-status-ne0

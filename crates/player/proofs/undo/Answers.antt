@@ -2,7 +2,6 @@
 use mathlib.Core.Path.{sym, ◌∙◌}
 use Rattle.player.proofs.UndoLaws.{surface_whole, last_inside, named_inside}
 use Rattle.player.proofs.UndoLaws.{undo_limits, undo_empty, undo_unclosed, undo_long, undo_off, undo_done}
-use borrow.Author.Rules.{rules}
 use Rattle.player.proofs.undo.Goals as goal
 
 pub returns-then-status-ne0 : goal.returns-then-status-ne0

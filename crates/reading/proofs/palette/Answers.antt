@@ -1,10 +1,5 @@
 -- The entries that are shown lie in the header part.
-use Prim.Native.Nat.{◌≤◌}
-use native.Mathlib.Omega.{arith}
-use lib.ListN.{length}
-use Rattle.picture.proofs.TableLaws.{table_in}
-use Rattle.reading.proofs.ReadingLaws.{entries_inside, palette_is}
-use borrow.Author.Rules.{rules}
+use Rattle.reading.proofs.ReadingLaws.{palette_is}
 use Rattle.reading.proofs.palette.Goals as goal
 
 pub returns : goal.returns

@@ -1,6 +1,5 @@
 -- What was found is a picture or none, and each return is its reading.
 use Rattle.reading.proofs.ReadingLaws.{answers_refused, answers_fields, answers_present, answers_none}
-use borrow.Author.Rules.{rules}
 use Rattle.reading.proofs.read.Goals as goal
 
 pub returns-in-Refused : goal.returns-in-Refused

@@ -1,6 +1,5 @@
 -- Columns and rows are the same function's, and Bounds decide whether there are any.
 use Rattle.region.proofs.SpanLaws.{target_missed, target_missed_rows, target_met}
-use borrow.Author.Rules.{rules}
 use Rattle.region.proofs.clipped_target.Goals as goal
 
 pub returns-then-meets-2 : goal.returns-then-meets-2

@@ -3,7 +3,6 @@ use mathlib.Core.Path.{ap}
 use native.Mathlib.Nat.{add-zero}
 use Rattle.words.specs.Bytes.{byte_at, le}
 use native.Mathlib.Omega.{arith}
-use borrow.Author.Rules.{rules}
 use Rattle.words.proofs.load_u16.Goals as goal
 
 pub returns : goal.returns

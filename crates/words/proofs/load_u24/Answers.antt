@@ -1,7 +1,6 @@
 -- A byte above the lower two.
 use native.Mathlib.Omega.{arith}
 use Rattle.words.specs.Bytes.{le}
-use borrow.Author.Rules.{rules}
 use Rattle.words.proofs.load_u24.Goals as goal
 
 pub returns : goal.returns

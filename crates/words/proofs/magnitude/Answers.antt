@@ -2,7 +2,6 @@
 use mathlib.Core.Path.{sym, ◌∙◌}
 use native.Mathlib.Omega.{arith}
 use Rattle.words.proofs.SignedLaws.{plain_size, negative_size, negative_high}
-use borrow.Author.Rules.{rules}
 use Rattle.words.proofs.magnitude.Goals as goal
 
 pub returns-then-is_negative : goal.returns-then-is_negative

@@ -1,7 +1,6 @@
 -- Two bytes above the lower two.
 use native.Mathlib.Omega.{arith}
 use Rattle.words.specs.Bytes.{le}
-use borrow.Author.Rules.{rules}
 use Rattle.words.proofs.read_edge.Goals as goal
 
 pub returns : goal.returns

@@ -4,7 +4,6 @@ use Prim.Native.Nat.{ℕ, ◌^◌}
 use lib.Dec.{ltb}
 use Rattle.dib.specs.HeaderStatus.{bad_colours}
 use Rattle.dib.proofs.HeaderLaws.{or_min}
-use borrow.Author.Rules.{rules}
 use Rattle.dib.proofs.limits.bad_colours.Goals as goal
 
 pub returns : goal.returns

@@ -2,7 +2,6 @@
 use Prim.Native.Nat.{◌≤◌}
 use native.Mathlib.Omega.{arith}
 use lib.Pow.{pow_mono}
-use borrow.Author.Rules.{rules}
 use Rattle.dib.proofs.limits.most_colours.Goals as goal
 
 pub returns-else-bits-lt8 : goal.returns-else-bits-lt8

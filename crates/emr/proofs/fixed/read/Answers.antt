@@ -1,6 +1,5 @@
 -- Each field is read where the definition reads it.
 use Rattle.emr.specs.Fixed.{fields_at}
-use borrow.Author.Rules.{rules}
 use Rattle.emr.proofs.fixed.read.Goals as goal
 
 pub returns : goal.returns

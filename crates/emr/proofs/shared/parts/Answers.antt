@@ -3,7 +3,6 @@ use mathlib.Core.Path.{sym, ◌∙◌}
 use mathlib.Core.Bool.{◌||◌}
 use Rattle.emr.specs.SharedParts.{shared_parts}
 use Rattle.emr.proofs.SharedPartsLaws.{no_mask}
-use borrow.Author.Rules.{rules}
 use Rattle.emr.proofs.shared.parts.Goals as goal
 
 pub returns-then-f : goal.returns-then-f

@@ -4,7 +4,6 @@ use Prim.Native.Nat.{ℕ}
 use lib.ListN.{length}
 use Rattle.words.specs.Status.{given}
 use Rattle.emr.specs.FrameStatus.{frame_status, bad_type, bad_size}
-use borrow.Author.Rules.{rules}
 use Rattle.emr.proofs.status.frame.Goals as goal
 
 pub returns : goal.returns

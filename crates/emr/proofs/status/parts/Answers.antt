@@ -3,7 +3,6 @@ use mathlib.Core.Path.{◌∙◌}
 use mathlib.Core.Bool.{◌||◌}
 use Rattle.words.specs.Status.{given}
 use Rattle.emr.specs.FrameStatus.{parts_status}
-use borrow.Author.Rules.{rules}
 use Rattle.emr.proofs.status.parts.Goals as goal
 
 pub returns : goal.returns

@@ -3,7 +3,6 @@ use mathlib.Core.Bool.{true, false}
 use Rattle.emr.specs.declared.Form.TheVariants.{Blend, Rop4, Rop}
 use Rattle.emr.specs.Types.{alpha_blend, mask_blt, stretch_dibits, row_of}
 use Rattle.emr.proofs.TypeLaws.{row_at, row_unlisted}
-use borrow.Author.Rules.{rules}
 use Rattle.emr.proofs.types.of.Goals as goal
 
 pub returns-then-kind-eq-ALPHABLEND : goal.returns-then-kind-eq-ALPHABLEND

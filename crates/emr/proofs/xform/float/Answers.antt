@@ -6,7 +6,6 @@ use Prim.Native.Nat.{ℕ, ◌%◌, ◌<◌, ◌≤◌}
 use lib.Dec.{T}
 use lib.Ieee.{Float, nan, inf, fin, binary32, of_bits, nan_bits, is_nan, div}
 use lib.Ieee.Bits.{nan_bits_is, nan_bits_above}
-use borrow.Author.Rules.{rules}
 use Rattle.emr.proofs.xform.float.Goals as goal
 
 only_nan : (x : Float) → is_nan x ≡ true → x ≡ nan

@@ -2,11 +2,8 @@
 use Prim.Native.Nat.{◌-◌}
 use mathlib.Core.List.{[]}
 use lib.ListN.{length}
-use Rattle.sample.specs.Stored.{stored}
-use Rattle.sample.specs.Colour.{shown}
 use Rattle.fetch.specs.Fetched.{byte_masks}
-use Rattle.fetch.proofs.FetchLaws.{Fetching, fetch_turns, fetching}
-use Rattle.fetch.proofs.CommonLaws.{masked_low}
+use Rattle.fetch.proofs.FetchLaws.{Fetching}
 use Rattle.fetch.proofs.common.opaque24.Given as goal
 
 abbrev pub invariant-loop-i : goal.invariant-loop-i

@@ -2,7 +2,6 @@
 use mathlib.Core.Path.{◌∙◌}
 use mathlib.Core.Bool.{cond, not}
 use Rattle.meaning.specs.Sampling.{mirrored}
-use borrow.Author.Rules.{rules}
 use Rattle.meaning.proofs.columns.is_mirrored.Goals as goal
 
 pub returns : goal.returns

@@ -1,8 +1,7 @@
 -- Each turn fills one column of the mask.
-use Rattle.words.proofs.FillingLaws.{Filling, filling_begins, filling_turns, filling_ends}
+use Rattle.words.proofs.FillingLaws.{Filling}
 use Rattle.pixel.specs.Position.{mask_pixel}
 use Rattle.words.specs.Bytes.{signed32}
-use native.Mathlib.Omega.{arith}
 use Prim.Native.Nat.{◌+◌, ◌-◌}
 use Rattle.meaning.proofs.columns.of_mask.Given as goal
 

@@ -1,7 +1,6 @@
 -- Each turn fills one column of the source.
-use Rattle.words.proofs.FillingLaws.{Filling, filling_begins, filling_turns, filling_ends}
+use Rattle.words.proofs.FillingLaws.{Filling}
 use Rattle.meaning.specs.Sampling.{source_column}
-use native.Mathlib.Omega.{arith}
 use Prim.Native.Nat.{◌+◌, ◌-◌}
 use Rattle.meaning.proofs.columns.of_source.Given as goal
 

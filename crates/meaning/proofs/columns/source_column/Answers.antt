@@ -1,7 +1,6 @@
 -- A column of the source's rectangle, counted from its first, lies in the picture, so the sum fits.
 use native.Mathlib.Omega.{arith}
 use Rattle.meaning.proofs.ColumnLaws.{column_is, position_lt}
-use borrow.Author.Rules.{rules}
 use Rattle.meaning.proofs.columns.source_column.Goals as goal
 
 pub overflow_add-result : goal.overflow_add-result

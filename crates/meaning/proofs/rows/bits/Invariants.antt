@@ -1,8 +1,7 @@
 -- Each turn fills one bit, which lies in the row's bytes.
-use Rattle.words.proofs.FillingLaws.{Filling, filling_begins, filling_turns, filling_ends}
+use Rattle.words.proofs.FillingLaws.{Filling}
 use Rattle.sample.specs.Stored.{stored1}
 use lib.ListN.{length, get_or}
-use native.Mathlib.Omega.{arith}
 use Prim.Native.Nat.{◌-◌}
 use Rattle.meaning.proofs.rows.bits.Given as goal
 

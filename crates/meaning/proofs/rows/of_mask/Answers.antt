@@ -1,10 +1,8 @@
 -- A row that is read lies in the mask, and its bits are the definition's; without a mask nothing is written.
 use native.Mathlib.Omega.{arith}
-use mathlib.Core.Path.{refl}
-use Rattle.words.proofs.FillLaws.{filled_where, filled_nowhere}
+use Rattle.words.proofs.FillLaws.{filled_where}
 use Rattle.dib.proofs.HeaderLaws.{sound}
 use Rattle.meaning.proofs.FilledRowLaws.{fields_ok, mask_filled, line_reaches, bits_reach, mask_row_in}
-use borrow.Author.Rules.{rules}
 use Rattle.meaning.proofs.rows.of_mask.Goals as goal
 
 pub mask_column-row-requires : goal.mask_column-row-requires

@@ -1,9 +1,7 @@
 -- A row that is read lies in the picture, and its pixels are the definition's; without a source nothing is written.
-use mathlib.Core.Path.{refl}
-use Rattle.words.proofs.FillLaws.{filled_where, filled_nowhere}
-use Rattle.meaning.proofs.FitLaws.{source_fits, row_inside}
+use Rattle.words.proofs.FillLaws.{filled_where}
+use Rattle.meaning.proofs.FitLaws.{row_inside}
 use Rattle.meaning.proofs.FilledRowLaws.{source_filled, line_reaches, as_readable}
-use borrow.Author.Rules.{rules}
 use Rattle.meaning.proofs.rows.of_source.Goals as goal
 
 pub row-line-requires : goal.row-line-requires

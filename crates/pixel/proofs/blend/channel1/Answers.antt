@@ -2,8 +2,6 @@
 use native.Mathlib.Omega.{arith}
 use Rattle.pixel.specs.Round.{round_div, cut}
 use Rattle.pixel.specs.Blend.{uncut1, blend1}
-use Rattle.pixel.proofs.BlendLaws.{parts1}
-use borrow.Author.Rules.{rules}
 use Rattle.pixel.proofs.blend.channel1.Goals as goal
 
 pub returns-then-q-lt255 : goal.returns-then-q-lt255

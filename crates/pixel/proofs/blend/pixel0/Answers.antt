@@ -2,7 +2,6 @@
 use mathlib.Core.Path.{refl}
 use Rattle.pixel.specs.Blend.{blend0, over0}
 use Rattle.pixel.proofs.BlendLaws.{through, together}
-use borrow.Author.Rules.{rules}
 use Rattle.pixel.proofs.blend.pixel0.Goals as goal
 
 pub returns : goal.returns

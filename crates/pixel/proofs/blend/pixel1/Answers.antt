@@ -3,7 +3,6 @@ use mathlib.Core.Path.{refl}
 use Prim.Native.Nat.{ℕ}
 use Rattle.pixel.specs.Blend.{blend1, blend_alpha1, over1}
 use Rattle.pixel.proofs.BlendLaws.{through, together}
-use borrow.Author.Rules.{rules}
 use Rattle.pixel.proofs.blend.pixel1.Goals as goal
 
 pub returns : goal.returns

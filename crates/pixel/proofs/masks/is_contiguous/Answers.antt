@@ -1,8 +1,6 @@
 -- Width and shift give the only run of ones, and 64 bits hold it.
-use native.Mathlib.Omega.{arith}
 use mathlib.Core.Path.{ap}
 use lib.Dec.{eqb}
-use lib.Pow.{pow_mono, pow_pos}
 use lib.Count.{ones-le, trailing_le}
 use Rattle.pixel.specs.Masks.{mask_width, mask_shift, contiguous}
 use Rattle.pixel.proofs.MaskLaws.{in_code}

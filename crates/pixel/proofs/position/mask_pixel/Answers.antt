@@ -2,8 +2,7 @@
 use mathlib.Core.Path.{ap, ◌∙◌}
 use lib.IntN.{ℤ}
 use Rattle.pixel.specs.Position.{remainder, mask_pixel}
-use Rattle.pixel.proofs.PositionLaws.{wide_fits, sum_fits, sum_seen}
-use borrow.Author.Rules.{rules}
+use Rattle.pixel.proofs.PositionLaws.{sum_seen}
 use Rattle.pixel.proofs.position.mask_pixel.Goals as goal
 
 pub returns : goal.returns

@@ -1,6 +1,5 @@
 -- Below zero the remainder counts down from the width.
-use Rattle.pixel.proofs.PositionLaws.{below_fits, below_cast, below_remainder, above_cast, above_remainder, mod_fits, mod_le_pred}
-use borrow.Author.Rules.{rules}
+use Rattle.pixel.proofs.PositionLaws.{below_remainder, above_remainder}
 use Rattle.pixel.proofs.position.remainder.Goals as goal
 
 pub returns-then-z-lt0 : goal.returns-then-z-lt0

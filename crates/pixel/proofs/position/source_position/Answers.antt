@@ -1,8 +1,5 @@
 -- A product of two 32-bit numbers fits 64 bits, and its quotient is below n.
-use native.Mathlib.Omega.{arith}
 use Rattle.pixel.specs.Position.{source_position}
-use Rattle.pixel.proofs.PositionLaws.{row_fits, column_lt}
-use borrow.Author.Rules.{rules}
 use Rattle.pixel.proofs.position.source_position.Goals as goal
 
 pub returns-then-mirrored : goal.returns-then-mirrored

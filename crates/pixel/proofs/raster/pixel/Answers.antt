@@ -2,7 +2,6 @@
 use mathlib.Core.Path.{ap}
 use Prim.Native.Nat.{ℕ, ◌+◌, ◌*◌, ◌/◌, ◌^◌}
 use Rattle.pixel.specs.Raster.{raster_pixel}
-use borrow.Author.Rules.{rules}
 use Rattle.pixel.proofs.raster.pixel.Goals as goal
 
 pub returns : goal.returns

@@ -6,7 +6,6 @@ use Rattle.pixel.specs.Bits.{bit}
 use Rattle.pixel.specs.AndTerms.{side_of, and_of, term_of, or_of}
 use Rattle.pixel.proofs.AndTermLaws.{or_of_terms}
 use Rattle.pixel.proofs.RasterLaws.{raster_lt}
-use borrow.Author.Rules.{rules}
 use Rattle.pixel.proofs.raster.raster.Goals as goal
 
 -- a line's two calls

@@ -2,7 +2,6 @@
 use mathlib.Core.Path.{refl}
 use Rattle.pixel.specs.Bits.{bit}
 use Rattle.pixel.specs.AndTerms.{spread_of}
-use borrow.Author.Rules.{rules}
 use Rattle.pixel.proofs.raster.spread.Goals as goal
 
 pub returns : goal.returns

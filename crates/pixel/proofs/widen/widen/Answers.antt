@@ -5,7 +5,6 @@ use Prim.Native.Nat.{ℕ}
 use lib.ListN.{get_or}
 use Rattle.pixel.specs.Widen.{Widens}
 use Rattle.pixel.proofs.WidenLaws.{place}
-use borrow.Author.Rules.{rules}
 use Rattle.pixel.proofs.widen.widen.Goals as goal
 
 pub overflow_sub-result : goal.overflow_sub-result

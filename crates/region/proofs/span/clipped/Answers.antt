@@ -1,6 +1,5 @@
 -- The later of the starts and the earlier of the ends bound what is left.
 use Rattle.region.proofs.SpanLaws.{clipped_is}
-use borrow.Author.Rules.{rules}
 use Rattle.region.proofs.span.clipped.Goals as goal
 
 pub returns : goal.returns

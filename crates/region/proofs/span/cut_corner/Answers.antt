@@ -2,7 +2,6 @@
 use mathlib.Core.Path.{◌∙◌}
 use mathlib.Core.Bool.{cond}
 use Rattle.region.specs.Axis.{cut_corner}
-use borrow.Author.Rules.{rules}
 use Rattle.region.proofs.span.cut_corner.Goals as goal
 
 pub returns : goal.returns

@@ -5,7 +5,6 @@ use Prim.Native.Nat.{ℕ, ◌-◌, ◌≤◌}
 use native.Mathlib.Omega.{arith}
 use Rattle.region.specs.Axis.{target_start}
 use Rattle.region.proofs.SpanLaws.{either_le}
-use borrow.Author.Rules.{rules}
 use Rattle.region.proofs.span.target_start.Goals as goal
 
 pub returns : goal.returns

@@ -3,7 +3,6 @@ use native.Mathlib.Omega.{arith}
 use Prim.Native.Nat.{◌^◌, ◌<◌}
 use Rattle.sample.specs.Colour.{channel8}
 use Rattle.sample.proofs.ColourLaws.{shift_lt, channel_lt}
-use borrow.Author.Rules.{rules}
 use Rattle.sample.proofs.colour.channel8.Goals as goal
 
 pub channel-v-requires : goal.channel-v-requires

@@ -1,7 +1,5 @@
 -- After k turns the first k entries are the table's colours, and the others are black.
-use native.Mathlib.Omega.{arith}
-use Prim.Native.Nat.{◌-◌}
-use Rattle.sample.proofs.PaletteLaws.{Reading, begins, turns, ends}
+use Rattle.sample.proofs.PaletteLaws.{begins, turns, ends}
 use Rattle.sample.proofs.palette.read.Goals as goal
 
 pub loop-k-init : goal.loop-k-init

@@ -2,7 +2,6 @@
 use native.Mathlib.Omega.{arith}
 use borrow.Author.Tests.{eq-eqb, ne_eqb}
 use Rattle.sample.specs.Stored.{stored4}
-use borrow.Author.Rules.{rules}
 use Rattle.sample.proofs.stored.half.Goals as goal
 
 pub returns-then-column-eq0 : goal.returns-then-column-eq0

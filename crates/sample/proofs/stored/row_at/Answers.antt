@@ -1,7 +1,6 @@
 -- Each branch is the definition's choice.
 use native.Mathlib.Omega.{arith}
 use Rattle.sample.specs.Stored.{stored_row}
-use borrow.Author.Rules.{rules}
 use Rattle.sample.proofs.stored.row_at.Goals as goal
 
 pub returns-then-top_down : goal.returns-then-top_down

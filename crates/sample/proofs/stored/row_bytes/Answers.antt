@@ -1,6 +1,5 @@
 -- The part that is taken is the definition's.
 use Rattle.sample.specs.Stored.{row_bytes}
-use borrow.Author.Rules.{rules}
 use Rattle.sample.proofs.stored.row_bytes.Goals as goal
 
 pub returns : goal.returns
