@@ -1,6 +1,7 @@
 // Makes the calls that a script lists, and prints a line for each. The script comes as standard input. Any player that reads
 // the same script must print the same text.
 #![tactic(auto)]
+
 mod calls;
 mod frame;
 mod head;
@@ -8,20 +9,23 @@ mod input;
 mod output;
 mod turns;
 
-fn main() {
+use std::io;
+
+fn main(rt: HostRuntime) -> io::Result<()> {
     let mut surface = [0u32; 262144];
     let mut journal = [0u8; 1048576];
     let mut input = [0u8; 196608];
     let mut output = [0u8; 65536];
-    run(&mut surface, &mut journal, &mut input, &mut output);
+    run(&rt, &mut surface, &mut journal, &mut input, &mut output)
 }
 
 // The arrays as slices: their lengths are the limits of a script.
 fn run(
+    rt: &(impl Input + Print),
     surface: &mut [u32; 262144],
     journal: &mut [u8; 1048576],
     input: &mut [u8; 196608],
     output: &mut [u8; 65536],
-) {
-    head::script(surface, journal, input, output);
+) -> io::Result<()> {
+    head::script(rt, surface, journal, input, output)
 }

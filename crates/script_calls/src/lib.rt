@@ -12,7 +12,7 @@ use reading::Layout;
 
 // What a call leaves for the next one: what the calls are lent (sides, pixels, journal bytes, and the journal's records in use),
 // the bytes that wait to be printed, whether another call may follow, and whether the script is free of faults so far.
-#[derive(Drop)]
+#[derive(Clone, Copy)]
 pub struct State {
     pub width: u32,
     pub height: u32,
