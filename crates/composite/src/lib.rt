@@ -1,13 +1,14 @@
 // A row of a play: one loop for each rule, which saves the old pixel and writes the new. The rule is chosen once a row: a choice
 // inside the loop would keep it from being vectorised.
 #![tactic(auto)]
+
 ghost use Rattle.std.specs.Prelude.{◌≡◌, ◌+◌, ◌*◌, ◌≤◌, [], length};
 ghost use Rattle.journal.specs.Records.{stride};
 ghost use Rattle.composite.specs.Paints.{painted_by, Painted};
 
 // What a pixel becomes: blended in alpha format 0 or 1 at a constant alpha, by a raster operation and a brush, or by one of two
 // raster operations (foreground, background) as the mask's bit says.
-#[derive(Drop)]
+#[derive(Clone, Copy)]
 pub enum Rule {
     Blend0(u8),
     Blend1(u8),
@@ -16,7 +17,7 @@ pub enum Rule {
 }
 
 // Where a row begins: its first record in the journal, and its first pixel's column and row.
-#[derive(Drop)]
+#[derive(Clone, Copy)]
 pub struct Start {
     pub at: usize,
     pub x: u32,

@@ -1,5 +1,6 @@
 // A DIB's header: read to its numbers, and judged (statuses 8, 9 and 10).
 #![tactic(auto)]
+
 ghost use Rattle.std.specs.Prelude.{◌≡◌, false, ◌<◌, length};
 ghost use Rattle.dib.specs.Header.{masks_at, header_of, top_down, table_start, entries};
 ghost use Rattle.dib.specs.HeaderStatus.{bad_fields, bad_header, bad_masks, bits_needed, dib_status};
@@ -7,7 +8,7 @@ ghost use Rattle.dib.specs.HeaderStatus.{bad_fields, bad_header, bad_masks, bits
 mod limits;
 
 // The masks of a pixel's channels. An alpha of 0 is none.
-#[derive(Drop)]
+#[derive(Clone, Copy)]
 pub struct Masks {
     pub red: u32,
     pub green: u32,
@@ -16,7 +17,7 @@ pub struct Masks {
 }
 
 // The header's numbers as written: width and height in two's complement. A mask is 0 where the header has none.
-#[derive(Drop)]
+#[derive(Clone, Copy)]
 pub struct Header {
     pub size: u32,
     pub width: u32,

@@ -18,7 +18,7 @@ const MOST: usize = 4096;
 const FEW: usize = 64;
 
 // A record, its clipped target on a surface of this width, the brush, and the first record of the journal that is written.
-#[derive(Drop)]
+#[derive(Clone, Copy)]
 pub struct Plan {
     pub width: u32,
     pub at: usize,

@@ -140,7 +140,7 @@ module _ (f : Fields) where
   only mask_bits mask_bits d k h l = absurd (d refl)
 
   pub says_refusal_21 : SaysRefusal21 f
-  says_refusal_21 = record { some = some; only = λ c. only c.one c.other c.different c.place c.in_one c.in-other }
+  says_refusal_21 = record { some = some; only = λ c. only c.one c.other c.different c.place c.in_one c.in_other }
 
   -- where the test fails, no byte lies in two parts
   pub apart : shared_parts f ≡ false → Apart of

@@ -1,5 +1,6 @@
 // A record's frame: the table of types, its fixed part as fields, and statuses 3 to 7, with 21 between 6 and 7.
 #![tactic(auto)]
+
 use region::Rectangle;
 
 pub mod fixed;
@@ -9,7 +10,7 @@ pub mod types;
 pub mod xform;
 
 // What a type's operation field holds: a blend, which needs a source always, or raster operations, which need one by their bytes.
-#[derive(Drop)]
+#[derive(Clone, Copy)]
 pub enum Form {
     Blend,
     Rop4,
@@ -17,7 +18,7 @@ pub enum Form {
 }
 
 // The offsets of a type's fields; 0 where it has no such field. A type that does not stretch has its target's extent for its source's.
-#[derive(Drop)]
+#[derive(Clone, Copy)]
 pub struct Offsets {
     pub extent: usize,
     pub operation: usize,
@@ -31,7 +32,7 @@ pub struct Offsets {
 }
 
 // A row of the table of types: where its fields stand, what its operation is, and whether its extents may be negative.
-#[derive(Drop)]
+#[derive(Clone, Copy)]
 pub struct Row {
     pub at: Offsets,
     pub form: Form,
@@ -39,7 +40,7 @@ pub struct Row {
 }
 
 // XformSrc.
-#[derive(Drop)]
+#[derive(Clone, Copy)]
 pub struct Transform {
     pub m11: f32,
     pub m12: f32,
@@ -50,7 +51,7 @@ pub struct Transform {
 }
 
 // A picture's corner and usage, and where its header part and its bits part stand. The corner is in two's complement.
-#[derive(Drop)]
+#[derive(Clone, Copy)]
 pub struct PictureFields {
     pub present: bool,
     pub x: u32,
@@ -63,7 +64,7 @@ pub struct PictureFields {
 }
 
 // The fields of a record's fixed part: Bounds, target, operation, source and mask. Signed ones are in two's complement.
-#[derive(Drop)]
+#[derive(Clone, Copy)]
 pub struct Fields {
     pub bounds: Rectangle,
     pub x: u32,

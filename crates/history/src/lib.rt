@@ -14,7 +14,7 @@ ghost use Rattle.history.specs.Stepped.{Stepped};
 use player::Answer;
 
 // What a run answered: its status, how many calls were made, and the journal's records in use afterwards.
-#[derive(Drop)]
+#[derive(Clone, Copy)]
 pub struct Report {
     pub status: u32,
     pub calls: u32,
@@ -22,7 +22,7 @@ pub struct Report {
 }
 
 // The journal's records in use after a call, and the place of the next one.
-#[derive(Drop)]
+#[derive(Clone, Copy)]
 struct Step {
     used: u64,
     at: usize,

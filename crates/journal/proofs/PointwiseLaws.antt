@@ -29,6 +29,7 @@ all_append P [] r a b = b
 all_append P (x ∷ l) r a b = (a.0, all_append P l r a.1 b)
 
 pub all_held : {A : Type 0} (P : A → Type 0) (l : List A) (x : A) → All P l → Memᴰ x l → P x
+all_held {A = A} P [] x a m = elim m [ ]
 all_held P (y ∷ l) x a (Memᴰ.head e) = subst P (sym e) a.0
 all_held P (y ∷ l) x a (Memᴰ.tail m) = all_held P l x a.1 m
 
@@ -67,6 +68,7 @@ module _ (w : ℕ) (f : Paint) where
   pub drawn_at : (ps : List Point) (s : List ℕ) (x y : ℕ) → Ascends w ps → Holds ps x y → pixel_index w x y < length s
       → get_or (drawn w f ps s) (pixel_index w x y) 0 ≡ f (get_or s (pixel_index w x y) 0) x y
   unfolding drawn
+  drawn_at [] s x y a m l = elim m [ ]
   drawn_at (p ∷ ps) s x y a (Memᴰ.head e) l =
       let i : ℕ = pixel_index w x y in
       rw (← e) (drawn_off ps (dot w f x y s) i (after_off i ps (rw (← e) at a.0)) ∙ get_or-set_same s i _ 0 l)

@@ -1,5 +1,6 @@
 // Writing the journal's records, reading them, and restoring pixels from them.
 #![tactic(auto)]
+
 ghost use Rattle.std.specs.Prelude.{◌≡◌, false, ◌+◌, ◌*◌, ◌≤◌, length};
 ghost use Rattle.std.proofs.lemmas.List.Edits.{sets};
 ghost use Rattle.journal.specs.Records.{stride, entry_bytes, entry_at, entries_at};

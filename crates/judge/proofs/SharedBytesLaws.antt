@@ -99,7 +99,7 @@ module _ (s : List ℕ) where
       go false e = none e
 
   passed : Apart (parts_named s) → status_of s ≡ or_else (before21 s) (after21 s)
-  passed a = by_test (λ c. absurd (a c.one c.other c.different c.place c.in_one c.in-other)) (order false)
+  passed a = by_test (λ c. absurd (a c.one c.other c.different c.place c.in_one c.in_other)) (order false)
 
   only : status_of s ≡ 21 → (before21 s ≡ 0) × SharesBytes s
   only e =

@@ -1,5 +1,6 @@
 // The whole check of a record: accepted as one value, or refused with its status. Every header is read once, the type is asked for once.
 #![tactic(auto)]
+
 ghost use Rattle.std.specs.Prelude.{◌≡◌};
 ghost use Rattle.judge.specs.Record.{header_in, picture_with, record_with};
 ghost use Rattle.judge.specs.Check.{picture_status, bad_geometry, call_status, later_status, status_of, settled, check_of, status_in};
@@ -12,7 +13,7 @@ mod geometry;
 mod operation;
 
 // What is done to a pixel, decoded from the operation field: a blend by its constant alpha, a foreground and a background raster operation, or one.
-#[derive(Drop)]
+#[derive(Clone, Copy)]
 pub enum Action {
     Blend0(u8),
     Blend1(u8),
@@ -21,7 +22,7 @@ pub enum Action {
 }
 
 // A picture of a record: its corner in two's complement, its header, and where its parts stand.
-#[derive(Drop)]
+#[derive(Clone, Copy)]
 pub struct Picture {
     pub present: bool,
     pub x: u32,
@@ -34,7 +35,7 @@ pub struct Picture {
 }
 
 // A record as one value. Signed numbers are in two's complement.
-#[derive(Drop)]
+#[derive(Clone, Copy)]
 pub struct Record {
     pub kind: u32,
     pub bounds: Rectangle,
@@ -50,7 +51,7 @@ pub struct Record {
 }
 
 // The check's answer: the accepted record, or the status.
-#[derive(Drop)]
+#[derive(Clone, Copy)]
 pub enum Checked {
     Accepted(Record),
     Refused(u32),

@@ -13,7 +13,7 @@ pub mod columns;
 pub mod rows;
 
 // A play's terms: what it is told besides its record. The clip cuts its target, the brush's low 24 bits are a raster operation's.
-#[derive(Drop)]
+#[derive(Clone, Copy)]
 pub struct Terms {
     pub clip: Rectangle,
     pub brush: u32,

@@ -1,5 +1,6 @@
 // The lent surface and journal: statuses 1 and 2.
 #![tactic(auto)]
+
 ghost use Rattle.std.specs.Prelude.{◌≡◌};
 ghost use Rattle.memory.specs.Memory.{bad_surface, bad_journal, surface_status, journal_status, limits};
 

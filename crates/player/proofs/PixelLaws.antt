@@ -27,7 +27,7 @@ module _ (w h : ℕ) (cx cy : ℕ) (f : Paint) (t : Target) (on : OnBoth w h cx 
   covered e x y c =
       let m : (t.rows.at + t.rows.count) * w ≤ h * w = mul-le-mul_right w (on.rows.ends (omega arith)) in
       drawn_inside w f t.columns.at t.columns.count t.rows.at t.rows.count s on.columns.ends x y
-      c.column-in.left c.column-in.right c.row_in.left c.row_in.right (omega (arith, mul_comm h w))
+      c.column_in.left c.column_in.right c.row_in.left c.row_in.right (omega (arith, mul_comm h w))
 
   not_covered : (x y : ℕ) → x < w → (Covers t x y → ⊥) → pixel w (drawn w f (points_in t) s) x y ≡ pixel w s x y
   not_covered x y l g =

@@ -13,7 +13,7 @@ use judge::{Checked, Record};
 use meaning::Terms;
 
 // A call's answer: its status, its number (of pixels drawn or restored), and the journal's records in use from now on.
-#[derive(Drop)]
+#[derive(Clone, Copy)]
 pub struct Answer {
     pub status: u32,
     pub number: u32,

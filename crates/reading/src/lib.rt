@@ -10,7 +10,7 @@ use dib::Masks;
 use judge::{Checked, Picture, Record};
 
 // How a view's pixels are stored. The masks are 0 under BI_RGB.
-#[derive(Drop)]
+#[derive(Clone, Copy)]
 pub struct Layout {
     pub bits: u32,
     pub compression: u32,
@@ -21,7 +21,7 @@ pub struct Layout {
 // What a reading answers, but for the bytes: the status; where the header part and the view's bytes stand in the record; where the colours
 // that the palette shows stand in the header part, and how many they are; width, rows and layout. Where there is no picture, all is 0 in
 // the 1-bit bottom-up layout.
-#[derive(Drop)]
+#[derive(Clone, Copy)]
 pub struct Reading {
     pub status: u32,
     pub header_at: usize,

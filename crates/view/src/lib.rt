@@ -6,7 +6,7 @@ ghost use Rattle.view.specs.View.{IsWhole};
 use reading::Layout;
 
 // A picture view: the record's own bytes, with width, rows and layout.
-#[derive(Drop)]
+#[derive(Clone, Copy)]
 pub struct View<'a> {
     pub bytes: &'a [u8],
     pub width: u32,
@@ -15,7 +15,7 @@ pub struct View<'a> {
 }
 
 // A reading for the source or the mask, as one answer.
-#[derive(Drop)]
+#[derive(Clone, Copy)]
 pub struct Whole<'a> {
     pub status: u32,
     pub header: &'a [u8],

@@ -1,0 +1,20 @@
+-- Each turn saves the old pixel and writes the new one, by the mask's bit.
+use Prim.Native.Nat.{ℕ, ◌-◌}
+use native.Mathlib.Omega.{arith}
+use lib.ListN.{length, get_or}
+use Rattle.composite.specs.declared.Rule.TheVariants.{Masked}
+use Rattle.composite.specs.Paints.{painted_by, row_paint}
+use Rattle.journal.proofs.RowLaws.{Row, row_begins, row_ends}
+use Rattle.composite.proofs.TurnLaws.{turns}
+use Rattle.composite.proofs.masked.Goals as goal
+
+pub loop-i-preserved : goal.loop-i-preserved
+loop-i-preserved c =
+    let at_loop = c in
+    let a = at_loop.args in
+    let rule = Masked a.foreground a.background a.brush in
+    turns (λ (i old : ℕ). painted_by rule (get_or a.colours.now i 0) (get_or a.bits.now i 0) old) _ _ _ _ _ _ _ _ _ _ _ _
+    at_loop.loop-i.invariant (omega arith) c.one_of.ensures c.put.ensures
+
+pub returns : goal.returns
+returns c = row_ends _ _ _ _ _ _ _ _ _ _ _ c.loop-i.invariant c.loop-i-test.false

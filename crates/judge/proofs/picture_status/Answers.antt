@@ -1,0 +1,14 @@
+-- Each call answers its definition, and the code joins them as the definition does.
+use mathlib.Core.Path.{ap, ◌∙◌}
+use mathlib.Core.Bool.{cond}
+use Prim.Native.Nat.{ℕ}
+use Rattle.judge.specs.Check.{picture_status}
+use borrow.Author.Rules.{rules}
+use Rattle.judge.proofs.picture_status.Goals as goal
+
+pub returns : goal.returns
+unfolding picture_status
+returns c =
+    let at_status = c in
+    let start = at_status in
+    c.either.ensures ∙ ap (λ (n : ℕ). cond start.args.p.present n 0) at_status.status.ensures
