@@ -1,6 +1,7 @@
 // Drawing an accepted record. What the record decides is decided before the first row; then each row fetches its source pixels
 // and mask bits, and one loop saves the old pixels and writes the new ones. The buffers hold one row.
 #![tactic(auto)]
+
 ghost use Rattle.std.specs.Prelude.{◌≡◌, ◌+◌, ◌≤◌, length};
 ghost use Rattle.words.specs.Bytes.{magnitude32};
 ghost use Rattle.judge.specs.Good.{Good};

@@ -1,5 +1,6 @@
 // A row of source pixels, fetched once a row: one loop for each depth and common layout, so that none is asked for at a pixel.
 #![tactic(auto)]
+
 ghost use Rattle.std.specs.Prelude.{◌≡◌, [], ◌+◌, ◌*◌, ◌^◌, ◌<◌, length, get_or};
 ghost use Rattle.words.specs.Filled.{Filled};
 ghost use Rattle.sample.specs.At.{Colours};

@@ -1,6 +1,7 @@
 // What an accepted record means: its rule, its source pixels and its mask bits, row by row. What the record decides is decided
 // once a play: the rule, and the columns that the source and the mask are read at.
 #![tactic(auto)]
+
 ghost use Rattle.std.specs.Prelude.{◌≡◌, ◌^◌, ◌<◌};
 ghost use Rattle.meaning.specs.Sampling.{is_format1};
 ghost use Rattle.meaning.specs.Meaning.{rule_of, terms_at};

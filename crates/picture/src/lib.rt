@@ -1,5 +1,6 @@
 // The pictures of a record: palette, bits part and rows.
 #![tactic(auto)]
+
 ghost use Rattle.std.specs.Prelude.{◌≡◌, true, false, ◌≤◌, ◌<◌, length};
 ghost use Rattle.dib.specs.Header.{rows, entries};
 ghost use Rattle.dib.specs.HeaderStatus.{bad_header};

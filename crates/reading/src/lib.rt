@@ -1,6 +1,7 @@
 // Reading a record's source or mask: `read` answers every byte string, with one judging, and the parts and the palette are taken by what
 // it answered.
 #![tactic(auto)]
+
 ghost use Rattle.std.specs.Prelude.{◌≡◌, false, length};
 ghost use Rattle.words.specs.Part.{IsPart};
 ghost use Rattle.dib.specs.HeaderStatus.{bad_fields};

@@ -1,2 +1,1 @@
 -- What the proof of a reading by one answer cites.
-pub mod Walk

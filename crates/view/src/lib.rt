@@ -1,6 +1,7 @@
 // A reading as one answer: its status, the header part, the view and the palette, in a struct that holds the record's own bytes. No
 // `requires`, every byte string is answered. The borrow checker covers no function over a struct that holds a slice: `read` is walked.
 #![tactic(auto)]
+
 ghost use Rattle.view.specs.View.{IsWhole};
 
 use reading::Layout;

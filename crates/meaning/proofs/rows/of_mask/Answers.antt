@@ -1,0 +1,45 @@
+-- A row that is read lies in the mask, and its bits are the definition's; without a mask nothing is written.
+use native.Mathlib.Omega.{arith}
+use mathlib.Core.Path.{refl}
+use Rattle.words.proofs.FillLaws.{filled_where, filled_nowhere}
+use Rattle.dib.proofs.HeaderLaws.{sound}
+use Rattle.meaning.proofs.FilledRowLaws.{fields_ok, mask_filled, line_reaches, bits_reach, mask_row_in}
+use borrow.Author.Rules.{rules}
+use Rattle.meaning.proofs.rows.of_mask.Goals as goal
+
+pub mask_column-row-requires : goal.mask_column-row-requires
+mask_column-row-requires c =
+    let start = c in
+    let p = start.args.r.mask in
+    let fields = fields_ok p start.requires.mask_row.good.mask c.if-p.true in
+    omega (arith, (sound p.header fields).rows.0, c.magnitude-rows.ensures)
+
+pub row-line-requires : goal.row-line-requires
+row-line-requires c =
+    let start = c in
+    let p = start.args.r.mask in
+    let fit = start.requires.mask_row.good.mask in
+    let there = c.if-p.true in
+    let rows = c.magnitude-rows.ensures in
+    (fit, there, mask_row_in p.y start.args.j p.header _ _ (fields_ok p fit there) rows c.mask_column-row.ensures)
+
+pub bits-requires : goal.bits-requires
+bits-requires c =
+    let at_row = c in
+    let start = at_row in
+    let p = start.args.r.mask in
+    let columns = start.args.columns.now in
+    let fit = start.requires.mask_row.good.mask in
+    let there = at_row.if-p.true in
+    let fields = fields_ok p fit there in
+    let row = mask_row_in p.y start.args.j p.header _ _ fields at_row.magnitude-rows.ensures at_row.mask_column-row.ensures in
+    let reach = line_reaches start.args.s.now p _ _ columns fit there row c.row-line.ensures (start.requires.mask_row.inside there) in
+    (start.requires.columns_in_bounds, bits_reach p.header c.row-line.result.now columns fields reach)
+
+pub returns-then-p : goal.returns-then-p
+returns-then-p c =
+    let at_row = c in
+    let start = at_row in
+    let there = at_row.if-p.true in
+    filled_where _ _ there (mask_filled start.args.s.now start.args.r _ start.args.columns.now start.args.j _ _ there
+    at_row.magnitude-rows.ensures at_row.mask_column-row.ensures at_row.row-line.ensures _ _ c.bits.ensures)
