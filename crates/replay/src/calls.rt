@@ -55,7 +55,8 @@ fn play(
 ) -> io::Result<State>
     requires { Lends s (length surface.old) (length journal.old) × Waits s (length output.old) × Found f (length bytes.now) }
     ensures ok { IfOk result (λ r. Same s r × Waits r (length output.old)) }
-    ensures err { OnErr result ((length surface.new ≡ length surface.old) × (length journal.new ≡ length journal.old) × (length output.new ≡ length output.old)) }
+    ensures err { OnErr result ((length surface.new ≡ length surface.old) × (length journal.new ≡ length journal.old)
+        × (length output.new ≡ length output.old)) }
 {
     let from = f.from;
     let to = f.to;
@@ -150,7 +151,8 @@ pub fn call(
 ) -> io::Result<State>
     requires { Lends s (length surface.old) (length journal.old) × Waits s (length output.old) × Found f (length bytes.now) }
     ensures ok { IfOk result (λ r. Lends r (length surface.old) (length journal.old) × Waits r (length output.old)) }
-    ensures err { OnErr result ((length surface.new ≡ length surface.old) × (length journal.new ≡ length journal.old) × (length output.new ≡ length output.old)) }
+    ensures err { OnErr result ((length surface.new ≡ length surface.old) × (length journal.new ≡ length journal.old)
+        × (length output.new ≡ length output.old)) }
 {
     let op = f.op;
     match op {

@@ -107,7 +107,8 @@ fn start(
 ) -> io::Result<Turn>
     ensures ok { IfOk result (λ r. Held r.place (length input.old)
         × Lends r.state (length surface.old) (length journal.old) × (r.state.waiting ≡ 0)) }
-    ensures err { OnErr result ((length surface.new ≡ length surface.old) × (length journal.new ≡ length journal.old) × (length input.new ≡ length input.old)) }
+    ensures err { OnErr result ((length surface.new ≡ length surface.old) × (length journal.new ≡ length journal.old)
+        × (length input.new ≡ length input.old)) }
 {
     let a = read_surface(rt, surface, input)?;
     let b = read_journal(rt, journal, input, a)?;
@@ -122,6 +123,7 @@ fn start(
 
 fn refuse(rt: &impl Print, output: &mut [u8], waiting: usize) -> io::Result<()>
     requires { (waiting ≤ length output.old) × (21 ≤ length output.old) }
+    ensures err { OnErr result (length output.new ≡ length output.old) }
 {
     let end = output::text(rt, output, waiting, b"bad script\n")?;
     output::flush(rt, output, end)
@@ -136,6 +138,7 @@ fn sums(
     waiting: usize,
 ) -> io::Result<()>
     requires { (waiting ≤ length output.old) × (21 ≤ length output.old) }
+    ensures err { OnErr result (length output.new ≡ length output.old) }
 {
     let a = output::text(rt, output, waiting, b"sheet ")?;
     let b = output::number(rt, output, a, script_format::sum::of_words(surface), b'\n')?;
@@ -153,6 +156,8 @@ fn calls_and_sums(
     first: Turn,
 ) -> io::Result<()>
     requires { Ready first (length surface.old) (length journal.old) (length input.old) (length output.old) }
+    ensures err { OnErr result ((length surface.new ≡ length surface.old) × (length journal.new ≡ length journal.old)
+        × (length input.new ≡ length input.old) × (length output.new ≡ length output.old)) }
 {
     let s = turns::all(rt, surface, journal, input, output, first)?;
     let waiting = s.waiting;
@@ -172,6 +177,8 @@ pub fn script(
     output: &mut [u8],
 ) -> io::Result<()>
     requires { 21 ≤ length output.old }
+    ensures err { OnErr result ((length surface.new ≡ length surface.old) × (length journal.new ≡ length journal.old)
+        × (length input.new ≡ length input.old) × (length output.new ≡ length output.old)) }
 {
     let t = start(rt, surface, journal, input)?;
     let s = t.state;

@@ -1,5 +1,6 @@
 // Makes the calls that a script lists, and prints a line for each. The script comes as standard input. Any player that reads
-// the same script must print the same text.
+// the same script must print the same text. Where a read or a write fails, the program ends with that error: of what was lent only
+// the lengths are known then, and what waits to be printed is lost.
 #![tactic(auto)]
 
 mod calls;

@@ -1,5 +1,5 @@
-// Text for standard output, through a buffer that is written where it is full. Where a write fails, the number or the text that
-// it made room for is not put into the buffer.
+// Text for standard output, through a buffer that is written where it is full. A text or a number that it cannot make room for, as
+// the write fails, is not put into it.
 ghost use Rattle.std.specs.Prelude.{◌≡◌, ◌+◌, ◌≤◌, length, IfOk, OnErr};
 
 use std::io;

@@ -1,5 +1,5 @@
 -- What was read stands at the front, and the rest of the slice is left.
-use Rattle.std.proofs.Common.{length, ◌-◌, ◌≤◌, ◌≡◌}
+use Rattle.std.proofs.Common.{length, ◌-◌, ◌≤◌}
 use Rattle.vectors.proofs.records.read_full.Given as goal
 
 abbrev pub invariant-loop-done : goal.invariant-loop-done
