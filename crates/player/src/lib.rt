@@ -1,5 +1,6 @@
 // Playing a record, and undoing the last play.
 #![tactic(auto)]
+
 ghost use Rattle.std.specs.Prelude.{◌≡◌, length};
 ghost use Rattle.judge.specs.Good.{Good};
 ghost use Rattle.memory.specs.Memory.{memory, limits};

@@ -1,0 +1,29 @@
+-- The statuses are asked in their order, and each return is the definition's case.
+use mathlib.Core.Path.{sym, ◌∙◌}
+use Rattle.player.proofs.PlayLaws.{play_limits, play_refused, play_accepted}
+use Rattle.judge.proofs.AcceptedLaws.{accepted}
+use borrow.Author.Rules.{rules}
+use Rattle.player.proofs.play.Goals as goal
+
+pub returns-then-status-ne0 : goal.returns-then-status-ne0
+returns-then-status-ne0 c = search play_limits
+
+pub returns-in-Refused : goal.returns-in-Refused
+returns-in-Refused c = search play_refused
+
+pub accepted-requires : goal.accepted-requires
+accepted-requires c =
+    let at_rec = c in
+    let at_check = at_rec in
+    let passes = sym at_check.status-status.ensures ∙ at_check.if-status-ne0.false in
+    (passes, (accepted _ _ (sym c.in-Accepted.is ∙ at_check.check.ensures)).1)
+
+pub returns : goal.returns
+returns c =
+    let at_rec = c in
+    let at_check = at_rec in
+    let start = at_check in
+    let a = start.args in
+    play_accepted a.width a.height a.surface.now a.journal.now a.used a.s.now a.terms _
+    at_check.status-status.ensures at_check.if-status-ne0.false _ at_check.check.ensures c.in-Accepted.rec _
+    c.in-Accepted.is c.accepted.ensures
