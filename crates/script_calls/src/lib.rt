@@ -1,5 +1,6 @@
 // The library's calls as a script asks for them, on what is lent of the surface and the journal.
 #![tactic(auto)]
+
 ghost use Rattle.std.specs.Prelude.{◌≡◌, ◌≤◌, length, take};
 ghost use Rattle.memory.specs.Memory.{memory as memory_with};
 ghost use Rattle.memory.specs.Undoing.{undo_of};
