@@ -19,7 +19,7 @@ fn main() {
     // The linker runs in another folder, so the path must be absolute.
     let folder = match folder.canonicalize() {
         Ok(folder) if archive.is_file() => folder,
-        _ => panic!("no liblacrumont.a in {}: build it, or set LACRUMONT_LIB to its folder", folder.display()),
+        _ => panic!("no liblacrumont.a in {}: tools/archive builds it, or set LACRUMONT_LIB to its folder", folder.display()),
     };
     println!("cargo:rustc-link-search=native={}", folder.display());
     println!("cargo:rustc-link-lib=static=lacrumont");

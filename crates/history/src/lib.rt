@@ -1,5 +1,6 @@
 // Runs a list of plays and undos that is given as bytes, each with the real call, and answers what each call answered.
 #![tactic(auto)]
+
 ghost use Rattle.std.specs.Prelude.{◌≡◌, true, ◌+◌, ◌*◌, ◌≤◌, length};
 ghost use Rattle.std.proofs.lemmas.List.Edits.{sets};
 ghost use Rattle.words.specs.Bytes.{le32};

@@ -29,7 +29,7 @@ below_zero a b = go (ltb a b)
 never_below : (a : ℕ) → ltb a 0 ≡ false
 never_below a = le-ltb a 0 (omega arith)
 
--- sticksOut over signed numbers; k is the corner where it is not negative
+-- sticks_out over signed numbers; k is the corner where it is not negative
 abbrev out : (x cx : ℤ) (k n : ℕ) → Bool
 out x cx k n = lt_z x (pos 0) || cond (lt_z cx (pos 0)) (ltb k (nat_abs cx) || ltb n k) (ltb n (k + nat_abs cx))
 

@@ -1,5 +1,6 @@
 // The C entry points: include/lacrumont.h documents them. They take every input.
 #![tactic(auto)]
+
 ghost use Rattle.std.specs.Prelude.{◌≡◌};
 ghost use Rattle.memory.specs.Memory.{memory, outcome};
 ghost use Rattle.memory.specs.Undoing.{undo_of};

@@ -1,1 +1,0 @@
--- What the proof of a reading by one answer cites.
