@@ -7,6 +7,7 @@ use crate::turns::Turn;
 use crate::{calls, input, output, turns};
 use script_calls::State;
 use std::io;
+use std::io::Read;
 
 // Before the head was read, and where it has a fault.
 fn nothing() -> State
@@ -48,7 +49,7 @@ fn sides(mark: u32, width: u32, height: u32, count: u32, most: usize) -> State
 }
 
 // The head from its start to the last pixel. The number after the mark is passed over.
-fn read_surface(rt: &impl Input, surface: &mut [u32], input: &mut [u8]) -> io::Result<Turn>
+fn read_surface(reader: &mut impl Read, surface: &mut [u32], input: &mut [u8]) -> io::Result<Turn>
     ensures ok { IfOk result (λ r. Held r.place (length input.old) × Lends r.state (length surface.old) 0 × (r.state.waiting ≡ 0)) }
     ensures err { OnErr result ((length surface.new ≡ length surface.old) × (length input.new ≡ length input.old)) }
 {
@@ -59,10 +60,10 @@ fn read_surface(rt: &impl Input, surface: &mut [u32], input: &mut [u8]) -> io::R
         good: true,
     };
     let mut first = [0u32; 5];
-    let p = input::fill(rt, input, start, &mut first)?;
+    let p = input::fill(reader, input, start, &mut first)?;
     let state = sides(first[0], first[2], first[3], first[4], surface.len());
     let pixels = state.pixels;
-    let place = input::fill(rt, input, p, &mut surface[..pixels])?;
+    let place = input::fill(reader, input, p, &mut surface[..pixels])?;
     Ok(Turn { place, state })
 }
 
@@ -84,7 +85,12 @@ fn records(journal: &mut [u8], count: u32, seed: u32, used: u32, state: State) -
 }
 
 // The rest of the head.
-fn read_journal(rt: &impl Input, journal: &mut [u8], input: &mut [u8], t: Turn) -> io::Result<Turn>
+fn read_journal(
+    reader: &mut impl Read,
+    journal: &mut [u8],
+    input: &mut [u8],
+    t: Turn,
+) -> io::Result<Turn>
     requires { Held t.place (length input.old) × (t.state.bytes ≤ 0) }
     ensures ok { IfOk result (λ r. Held r.place (length input.old) × (r.state.pixels
         ≡ t.state.pixels) × (r.state.bytes ≤ length journal.old) × (r.state.waiting ≡ t.state.waiting)) }
@@ -93,14 +99,14 @@ fn read_journal(rt: &impl Input, journal: &mut [u8], input: &mut [u8], t: Turn) 
     let start = t.place;
     let before = t.state;
     let mut last = [0u32; 3];
-    let place = input::fill(rt, input, start, &mut last)?;
+    let place = input::fill(reader, input, start, &mut last)?;
     let state = records(journal, last[0], last[1], last[2], before);
     Ok(Turn { place, state })
 }
 
 // What the first call is lent: all there is. Where the head is cut short, no call follows.
 fn start(
-    rt: &impl Input,
+    reader: &mut impl Read,
     surface: &mut [u32],
     journal: &mut [u8],
     input: &mut [u8],
@@ -110,8 +116,8 @@ fn start(
     ensures err { OnErr result ((length surface.new ≡ length surface.old) × (length journal.new ≡ length journal.old)
         × (length input.new ≡ length input.old)) }
 {
-    let a = read_surface(rt, surface, input)?;
-    let b = read_journal(rt, journal, input, a)?;
+    let a = read_surface(reader, surface, input)?;
+    let b = read_journal(reader, journal, input, a)?;
     let place = b.place;
     if place.good {
         return Ok(b);
@@ -148,7 +154,8 @@ fn sums(
 }
 
 fn calls_and_sums(
-    rt: &(impl Input + Print),
+    rt: &impl Print,
+    reader: &mut impl Read,
     surface: &mut [u32],
     journal: &mut [u8],
     input: &mut [u8],
@@ -159,7 +166,7 @@ fn calls_and_sums(
     ensures err { OnErr result ((length surface.new ≡ length surface.old) × (length journal.new ≡ length journal.old)
         × (length input.new ≡ length input.old) × (length output.new ≡ length output.old)) }
 {
-    let s = turns::all(rt, surface, journal, input, output, first)?;
+    let s = turns::all(rt, reader, surface, journal, input, output, first)?;
     let waiting = s.waiting;
     if s.good {
         sums(rt, surface, journal, output, waiting)
@@ -170,7 +177,8 @@ fn calls_and_sums(
 
 // A whole script. The lengths of surface and journal are its limits.
 pub fn script(
-    rt: &(impl Input + Print),
+    rt: &impl Print,
+    reader: &mut impl Read,
     surface: &mut [u32],
     journal: &mut [u8],
     input: &mut [u8],
@@ -180,12 +188,13 @@ pub fn script(
     ensures err { OnErr result ((length surface.new ≡ length surface.old) × (length journal.new ≡ length journal.old)
         × (length input.new ≡ length input.old) × (length output.new ≡ length output.old)) }
 {
-    let t = start(rt, surface, journal, input)?;
+    let t = start(reader, surface, journal, input)?;
     let s = t.state;
     let pixels = s.pixels;
     let bytes = s.bytes;
     calls_and_sums(
         rt,
+        reader,
         &mut surface[..pixels],
         &mut journal[..bytes],
         input,

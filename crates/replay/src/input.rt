@@ -44,7 +44,7 @@ fn read_full(reader: &mut impl Read, to: &mut [u8]) -> io::Result<usize>
 }
 
 // The same place of the script, with its bytes moved to the front and the rest of the buffer filled.
-fn refill(rt: &impl Input, buffer: &mut [u8], p: Cursor) -> io::Result<Cursor>
+fn refill(reader: &mut impl Read, buffer: &mut [u8], p: Cursor) -> io::Result<Cursor>
     requires { Held p (length buffer.old) }
     ensures ok { IfOk result (λ r. Held r (length buffer.old) × Unread p buffer.old r buffer.new) }
     ensures err { OnErr result (length buffer.new ≡ length buffer.old) }
@@ -52,8 +52,7 @@ fn refill(rt: &impl Input, buffer: &mut [u8], p: Cursor) -> io::Result<Cursor>
     let full = buffer.len();
     let left = p.end - p.at;
     shift(buffer, p.at, left);
-    let mut reader = rt.reader();
-    let read = read_full(&mut reader, &mut buffer[left..])?;
+    let read = read_full(reader, &mut buffer[left..])?;
     Ok(Cursor {
         at: 0,
         end: left + read,
@@ -63,7 +62,12 @@ fn refill(rt: &impl Input, buffer: &mut [u8], p: Cursor) -> io::Result<Cursor>
 }
 
 // The same place of the script, with `count` bytes to read, or else all there are.
-pub fn ahead(rt: &impl Input, buffer: &mut [u8], p: Cursor, count: usize) -> io::Result<Cursor>
+pub fn ahead(
+    reader: &mut impl Read,
+    buffer: &mut [u8],
+    p: Cursor,
+    count: usize,
+) -> io::Result<Cursor>
     requires { Held p (length buffer.old) }
     ensures ok { IfOk result (λ r. Held r (length buffer.old) × Unread p buffer.old r buffer.new) }
     ensures err { OnErr result (length buffer.new ≡ length buffer.old) }
@@ -74,11 +78,16 @@ pub fn ahead(rt: &impl Input, buffer: &mut [u8], p: Cursor, count: usize) -> io:
     if !p.more {
         return Ok(p);
     }
-    refill(rt, buffer, p)
+    refill(reader, buffer, p)
 }
 
 // As many numbers as the slice takes.
-pub fn fill(rt: &impl Input, buffer: &mut [u8], start: Cursor, to: &mut [u32]) -> io::Result<Cursor>
+pub fn fill(
+    reader: &mut impl Read,
+    buffer: &mut [u8],
+    start: Cursor,
+    to: &mut [u32],
+) -> io::Result<Cursor>
     requires { Held start (length buffer.old) }
     ensures ok { IfOk result (λ r. Held r (length buffer.old)) }
     ensures err { OnErr result ((length buffer.new ≡ length buffer.old) × (length to.new ≡ length to.old)) }
@@ -86,7 +95,7 @@ pub fn fill(rt: &impl Input, buffer: &mut [u8], start: Cursor, to: &mut [u32]) -
     let mut p = start;
     let mut k = 0;
     while k < to.len() {
-        p = ahead(rt, buffer, p, 4)?;
+        p = ahead(reader, buffer, p, 4)?;
         let at = p.at;
         if p.end - at < 4 {
             p.good = false;

@@ -11,22 +11,32 @@ mod output;
 mod turns;
 
 use std::io;
+use std::io::Read;
 
 fn main(rt: HostRuntime) -> io::Result<()> {
     let mut surface = [0u32; 262144];
     let mut journal = [0u8; 1048576];
     let mut input = [0u8; 196608];
     let mut output = [0u8; 65536];
-    run(&rt, &mut surface, &mut journal, &mut input, &mut output)
+    let mut stdin = rt.stdin();
+    run(
+        &rt,
+        &mut stdin,
+        &mut surface,
+        &mut journal,
+        &mut input,
+        &mut output,
+    )
 }
 
 // The arrays as slices: their lengths are the limits of a script.
 fn run(
-    rt: &(impl Input + Print),
+    rt: &impl Print,
+    reader: &mut impl Read,
     surface: &mut [u32; 262144],
     journal: &mut [u8; 1048576],
     input: &mut [u8; 196608],
     output: &mut [u8; 65536],
 ) -> io::Result<()> {
-    head::script(rt, surface, journal, input, output)
+    head::script(rt, reader, surface, journal, input, output)
 }

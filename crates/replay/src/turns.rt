@@ -6,6 +6,7 @@ use crate::input::Cursor;
 use crate::{calls, frame, input};
 use script_calls::State;
 use std::io;
+use std::io::Read;
 
 // The script's place, and what the calls so far have left.
 #[derive(Clone, Copy)]
@@ -16,7 +17,8 @@ pub struct Turn {
 
 // One call. It takes 131,104 bytes at most, and they are in the buffer before it is made.
 fn one(
-    rt: &(impl Input + Print),
+    rt: &impl Print,
+    reader: &mut impl Read,
     surface: &mut [u32],
     journal: &mut [u8],
     input: &mut [u8],
@@ -30,7 +32,7 @@ fn one(
 {
     let start = t.place;
     let before = t.state;
-    let mut place = input::ahead(rt, input, start, 131104)?;
+    let mut place = input::ahead(reader, input, start, 131104)?;
     let at = place.at;
     let end = place.end;
     let s = &input[at..end];
@@ -42,7 +44,8 @@ fn one(
 
 // Calls until the script's end or a fault. A loop has to end, so there is a count of turns, more than a script can have calls.
 pub fn all(
-    rt: &(impl Input + Print),
+    rt: &impl Print,
+    reader: &mut impl Read,
     surface: &mut [u32],
     journal: &mut [u8],
     input: &mut [u8],
@@ -62,7 +65,7 @@ pub fn all(
             return Ok(s);
         }
         turns -= 1;
-        t = one(rt, surface, journal, input, output, t)?;
+        t = one(rt, reader, surface, journal, input, output, t)?;
     }
     let s = t.state;
     Ok(calls::faulty(s))

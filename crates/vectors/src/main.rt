@@ -30,5 +30,6 @@ fn main(rt: HostRuntime) -> io::Result<()> {
     plays::copied(&rt)?;
     plays::picked(&rt)?;
     plays::stretches(&rt)?;
-    records::all(&rt)
+    let mut stdin = rt.stdin();
+    records::all(&rt, &mut stdin)
 }

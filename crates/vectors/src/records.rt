@@ -7,10 +7,9 @@ use crate::line;
 use std::io;
 use std::io::Read;
 
-pub fn all(rt: &(impl Input + Print)) -> io::Result<()> {
+pub fn all(rt: &impl Print, reader: &mut impl Read) -> io::Result<()> {
     let mut space = [0u8; 262144];
-    let mut reader = rt.reader();
-    let n = read_full(&mut reader, &mut space)?;
+    let n = read_full(reader, &mut space)?;
     walk(rt, &space[..n])
 }
 
