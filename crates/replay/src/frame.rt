@@ -4,7 +4,7 @@ ghost use Rattle.replay.specs.Ready.{Found};
 
 // A call at the front of some bytes: its opcode, where its byte data begins and ends, and how many bytes it takes. Where no call
 // lies whole in the bytes, the opcode is an unknown one.
-#[derive(Drop)]
+#[derive(Clone, Copy)]
 pub struct Frame {
     pub op: u32,
     pub from: usize,

@@ -1,7 +1,7 @@
 -- A reading's parts lie in its record, so they are as long as the reading says, and the line of a whole reading's parts is the reading's line.
 use mathlib.Core.Path.{◌≡◌, refl, ap, subst}
 use mathlib.Core.Bool.{Bool, true, false}
-use mathlib.Core.List.{List, map, map-id}
+use mathlib.Core.List.{List}
 use Prim.Native.Nat.{ℕ, ◌+◌, ◌≤◌}
 use native.Mathlib.Omega.{arith}
 use lib.ListN.{length, length-take, length-drop}
@@ -34,7 +34,7 @@ part_length s at len h = simp (length-take, length-drop) (omega arith)
 
 -- a reading's line, from the whole reading's parts
 pub line_read : (s : Bor (List ℕ)) (mask : Bool) (w : Whole) → IsWhole s mask w → (n : List ℕ)
-    → n ≡ line_parts w.status w.header.now w.view.bytes.now w.view.width w.view.rows w.view.layout (map (λ (z : ℕ). z) w.palette)
+    → n ≡ line_parts w.status w.header.now w.view.bytes.now w.view.width w.view.rows w.view.layout w.palette
     → n ≡ read_line s.now mask
 unfolding read_line header_bytes view_bytes
 line_read s mask w e n made =
@@ -42,4 +42,4 @@ line_read s mask w e n made =
     let within : Within (length s.now) r = reading_within s.now mask in
     let v : w.view.width ≡ r.width = ap (λ (x : View). x.width) e.view.numbers in
     let t : w.view.rows ≡ r.rows = ap (λ (x : View). x.rows) e.view.numbers in
-    cc (part_length s.now _ _ within.header, part_length s.now _ _ within.view, map-id w.palette, ap (λ (x : View). x.layout) e.view.numbers)
+    cc (part_length s.now _ _ within.header, part_length s.now _ _ within.view, ap (λ (x : View). x.layout) e.view.numbers)

@@ -1,5 +1,6 @@
 // The library's calls as a script asks for them, on what is lent of the surface and the journal.
 #![tactic(auto)]
+
 ghost use Rattle.std.specs.Prelude.{◌≡◌, ◌≤◌, length, take};
 ghost use Rattle.memory.specs.Memory.{memory as memory_with};
 ghost use Rattle.memory.specs.Undoing.{undo_of};
@@ -12,7 +13,7 @@ use reading::Layout;
 
 // What a call leaves for the next one: what the calls are lent (sides, pixels, journal bytes, and the journal's records in use),
 // the bytes that wait to be printed, whether another call may follow, and whether the script is free of faults so far.
-#[derive(Drop)]
+#[derive(Clone, Copy)]
 pub struct State {
     pub width: u32,
     pub height: u32,

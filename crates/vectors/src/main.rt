@@ -2,30 +2,34 @@
 // line says what was asked, what came and what should come; the file `stdout` beside src/ holds what document 01 says.
 // tools/vector_records.py writes both files.
 #![tactic(auto)]
+
 mod line;
 mod numbers;
 mod plays;
 mod records;
 
-fn main() {
-    numbers::blends();
-    numbers::uncut();
-    numbers::whole_pixels();
-    numbers::raster();
-    numbers::terms();
-    numbers::needs_source();
-    numbers::widths();
-    numbers::row_lengths();
-    numbers::source_positions();
-    numbers::mask_places();
-    numbers::channel_masks();
-    numbers::halves();
-    plays::whole();
-    plays::refused();
-    plays::blends();
-    plays::masked();
-    plays::copied();
-    plays::picked();
-    plays::stretches();
-    records::all();
+use std::io;
+
+fn main(rt: HostRuntime) -> io::Result<()> {
+    numbers::blends(&rt)?;
+    numbers::uncut(&rt)?;
+    numbers::whole_pixels(&rt)?;
+    numbers::raster(&rt)?;
+    numbers::terms(&rt)?;
+    numbers::needs_source(&rt)?;
+    numbers::widths(&rt)?;
+    numbers::row_lengths(&rt)?;
+    numbers::source_positions(&rt)?;
+    numbers::mask_places(&rt)?;
+    numbers::channel_masks(&rt)?;
+    numbers::halves(&rt)?;
+    plays::whole(&rt)?;
+    plays::refused(&rt)?;
+    plays::blends(&rt)?;
+    plays::masked(&rt)?;
+    plays::copied(&rt)?;
+    plays::picked(&rt)?;
+    plays::stretches(&rt)?;
+    let mut stdin = rt.stdin();
+    records::all(&rt, &mut stdin)
 }
