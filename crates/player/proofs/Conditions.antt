@@ -9,7 +9,7 @@ use lib.ListN.{length}
 use lib.Seq.{sets, length-sets}
 use borrow.Author.Tests.{ltb-false}
 use Rattle.words.proofs.ChoiceLaws.{given_none, or_else_none}
-use Rattle.words.proofs.ListLaws.{get_d_sets_before, get_or_sets_behind, get_or_sets_in}
+use Rattle.words.proofs.ListLaws.{get_or_sets_before, get_or_sets_behind, get_or_sets_in}
 use Rattle.region.specs.declared.Target.{Target}
 use Rattle.journal.specs.Records.{stride, Entry, bytes_of, closing}
 use Rattle.journal.proofs.RecordLaws.{length_bytes, length_drawn}
@@ -46,7 +46,7 @@ written j u es l =
     let n = length_bytes es in
     record {
       long = length-sets j (u * stride) (bytes_of es);
-      below = λ i b. get_d_sets_before j (u * stride) (bytes_of es) i 0 b;
+      below = λ i b. get_or_sets_before j (u * stride) (bytes_of es) i 0 b;
       records = λ i b. get_or_sets_in j (u * stride) (bytes_of es) i 0 (omega (arith, n)) (omega (arith, n));
       above = λ i b. get_or_sets_behind j (u * stride) (bytes_of es) i 0 (omega (arith, n));
     }
