@@ -142,6 +142,7 @@ fn call_status(row: Row, operation: u32, r: Record) -> u32
 }
 
 // 8 to 13, or 0.
+#[tactic(auto, unfolding(crate::specs::Check::later_status, crate::specs::Check::dibs_status))]
 fn later_status(row: Row, operation: u32, r: Record) -> u32
     ensures { result ≡ later_status row operation r }
 {
