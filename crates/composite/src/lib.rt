@@ -34,9 +34,9 @@ pub fn row(
     bits: &[u8],
     rule: Rule,
 )
-    requires colours_bound { (p.x + length colours.now ≤ width) × (length colours.now ≤ length bits.now) }
-    requires width_in_bounds { p.y * width + width ≤ length surface.old }
-    requires stride_in_bounds { (p.at + length colours.now) * stride ≤ length journal.old }
+    requires in_width { (p.x + length colours.now ≤ width) × (length colours.now ≤ length bits.now) }
+    requires in_surface { p.y * width + width ≤ length surface.old }
+    requires in_journal { (p.at + length colours.now) * stride ≤ length journal.old }
     ensures { Painted width p rule colours.now bits.now
         surface.old journal.old surface.new journal.new }
 {
@@ -51,9 +51,9 @@ pub fn row(
 }
 
 fn over0(surface: &mut [u32], width: u32, journal: &mut [u8], p: Start, colours: &[u32], c: u8)
-    requires colours_bound { p.x + length colours.now ≤ width }
-    requires width_in_bounds { p.y * width + width ≤ length surface.old }
-    requires stride_in_bounds { (p.at + length colours.now) * stride ≤ length journal.old }
+    requires in_width { p.x + length colours.now ≤ width }
+    requires in_surface { p.y * width + width ≤ length surface.old }
+    requires in_journal { (p.at + length colours.now) * stride ≤ length journal.old }
     ensures { Painted width p (Rule.Blend0 c) colours.now []
         surface.old journal.old surface.new journal.new }
 {
@@ -72,9 +72,9 @@ fn over0(surface: &mut [u32], width: u32, journal: &mut [u8], p: Start, colours:
 }
 
 fn over1(surface: &mut [u32], width: u32, journal: &mut [u8], p: Start, colours: &[u32], c: u8)
-    requires colours_bound { p.x + length colours.now ≤ width }
-    requires width_in_bounds { p.y * width + width ≤ length surface.old }
-    requires stride_in_bounds { (p.at + length colours.now) * stride ≤ length journal.old }
+    requires in_width { p.x + length colours.now ≤ width }
+    requires in_surface { p.y * width + width ≤ length surface.old }
+    requires in_journal { (p.at + length colours.now) * stride ≤ length journal.old }
     ensures { Painted width p (Rule.Blend1 c) colours.now []
         surface.old journal.old surface.new journal.new }
 {
@@ -101,9 +101,9 @@ fn raster(
     op: u8,
     brush: u32,
 )
-    requires colours_bound { p.x + length colours.now ≤ width }
-    requires width_in_bounds { p.y * width + width ≤ length surface.old }
-    requires stride_in_bounds { (p.at + length colours.now) * stride ≤ length journal.old }
+    requires in_width { p.x + length colours.now ≤ width }
+    requires in_surface { p.y * width + width ≤ length surface.old }
+    requires in_journal { (p.at + length colours.now) * stride ≤ length journal.old }
     ensures { Painted width p (Rule.Raster op brush) colours.now []
         surface.old journal.old surface.new journal.new }
 {
@@ -132,10 +132,10 @@ fn masked(
     background: u8,
     brush: u32,
 )
-    requires colours_bound { p.x + length colours.now ≤ width }
-    requires colours_in_bounds { length colours.now ≤ length bits.now }
-    requires width_in_bounds { p.y * width + width ≤ length surface.old }
-    requires stride_in_bounds { (p.at + length colours.now) * stride ≤ length journal.old }
+    requires in_width { p.x + length colours.now ≤ width }
+    requires bits_enough { length colours.now ≤ length bits.now }
+    requires in_surface { p.y * width + width ≤ length surface.old }
+    requires in_journal { (p.at + length colours.now) * stride ≤ length journal.old }
     ensures { Painted width p (Rule.Masked foreground background brush) colours.now bits.now
         surface.old journal.old surface.new journal.new }
 {

@@ -63,9 +63,9 @@ fn rows(
     bits: &mut [u8],
 )
     requires ready { Ready (length s.now) p surface.old journal.old }
-    requires palette_value { (palette.now ≡ picture_palette s.now p.record.source) × Colours palette.now }
+    requires source_palette { (palette.now ≡ picture_palette s.now p.record.source) × Colours palette.now }
     requires mapped { Mapped p source_columns.now mask_columns.now }
-    requires count_in_bounds { (p.target.columns.count ≤ length colours.old) × (p.target.columns.count ≤ length bits.old)
+    requires blank_buffers { (p.target.columns.count ≤ length colours.old) × (p.target.columns.count ≤ length bits.old)
         × Blank p.record.source.present p.target.columns.count colours.old
         × Blank p.record.mask.present p.target.columns.count bits.old }
     ensures { Drawn s.now p surface.old journal.old surface.new journal.new }

@@ -141,7 +141,7 @@ fn column_at(columns: &[u32], i: usize) -> usize
 
 // A palette's colour with alpha 255.
 fn opaque(palette: &[u32; 256], n: u32) -> u32
-    requires n_bound { n < 256 }
+    requires is_byte { n < 256 }
     requires colours { Colours palette.now }
     ensures { result ≡ 255 * 2 ^ 24 + get_or palette.now n 0 }
 {

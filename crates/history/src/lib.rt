@@ -164,9 +164,9 @@ fn all(
     answers: &mut [u32],
 ) -> u64
     requires { (well_formed list.now 4 n ≡ true) × (n * 2 ≤ length answers.old) }
-    ensures result_after { memory surface.new journal.new result
+    ensures leaves { memory surface.new journal.new result
         ≡ memory_after width height (calls_from list.now 4 n) (memory surface.old journal.old 0) }
-    ensures answers_after { answers.new ≡ sets answers.old 0
+    ensures writes { answers.new ≡ sets answers.old 0
         (numbers_of (answers_of width height (calls_from list.now 4 n) (memory surface.old journal.old 0))) }
 {
     let mut used = 0;

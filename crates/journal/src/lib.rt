@@ -63,9 +63,9 @@ pub fn any_off(journal: &[u8], from: usize, n: usize, width: u32, height: u32) -
 
 // Restores the pixels of n records from `from` on, the last one first: a pixel drawn twice gets its oldest value back.
 pub fn restore(surface: &mut [u32], width: u32, height: u32, journal: &[u8], from: usize, n: usize)
-    requires stride_in_bounds { (from + n) * stride ≤ length journal.now }
-    requires surface_len { length surface.old ≡ width * height }
-    requires n_value { any_off width height (entries_at journal.now from n) ≡ false }
+    requires in_journal { (from + n) * stride ≤ length journal.now }
+    requires whole_surface { length surface.old ≡ width * height }
+    requires on_surface { any_off width height (entries_at journal.now from n) ≡ false }
     ensures { surface.new ≡ restored width (entries_at journal.now from n) surface.old }
 {
     let mut i = from + n;

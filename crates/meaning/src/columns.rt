@@ -21,8 +21,8 @@ fn is_mirrored(target: u32, source: u32) -> bool
 
 // The column (or row) of the source that column (or row) i of the target reads.
 pub fn source_column(x: u32, source: u32, target: u32, i: u32) -> u32
-    requires i_bound { (i < magnitude32 target) × (1 ≤ magnitude32 source) }
-    requires x_bound { (x < 2 ^ 31) × (magnitude32 source ≤ 16384) }
+    requires in_target { (i < magnitude32 target) × (1 ≤ magnitude32 source) }
+    requires in_limits { (x < 2 ^ 31) × (magnitude32 source ≤ 16384) }
     ensures { result ≡ source_column x source target i }
 {
     let start = source_start(x, source);
@@ -34,8 +34,8 @@ pub fn source_column(x: u32, source: u32, target: u32, i: u32) -> u32
 
 // The columns of the source that the target's columns from `index` on read.
 pub fn of_source(x: u32, source: u32, target: u32, index: u32, out: &mut [u32], count: usize)
-    requires count_bound { (index + count ≤ magnitude32 target) × (count ≤ length out.old) }
-    requires bound { (1 ≤ magnitude32 source) × (x < 2 ^ 31) × (magnitude32 source ≤ 16384) × (magnitude32 target ≤ 4096) }
+    requires in_target { (index + count ≤ magnitude32 target) × (count ≤ length out.old) }
+    requires in_limits { (1 ≤ magnitude32 source) × (x < 2 ^ 31) × (magnitude32 source ≤ 16384) × (magnitude32 target ≤ 4096) }
     ensures { Filled (λ k. source_column x source target (index + k)) out.old count out.new }
 {
     let mut k = 0;

@@ -33,7 +33,7 @@ pub fn of_source(
     out: &mut [u32],
 )
     requires source_row { SourceRow s.now r m palette.now columns.now }
-    requires j_bound { (j < magnitude32 r.cy) × (length columns.now ≤ length out.old) }
+    requires in_rows { (j < magnitude32 r.cy) × (length columns.now ≤ length out.old) }
     ensures { SourceFilled s.now r j columns.now out.old out.new }
 {
     let p = r.source;
@@ -47,7 +47,7 @@ pub fn of_source(
 // The mask bits of these columns of the mask, in the row that row j of the target reads.
 pub fn of_mask(s: &[u8], r: Record, columns: &[u32], j: u32, out: &mut [u8])
     requires mask_row { MaskRow s.now r columns.now }
-    requires columns_in_bounds { length columns.now ≤ length out.old }
+    requires room { length columns.now ≤ length out.old }
     ensures { MaskFilled s.now r j columns.now out.old out.new }
 {
     let p = r.mask;

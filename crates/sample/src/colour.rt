@@ -40,7 +40,7 @@ fn channel8(t: &[u8; 510], mask: u32, n: u32) -> u8
 }
 
 fn alpha(t: &[u8; 510], mask: u32, n: u32) -> u8
-    requires mask_bound { mask_width mask ≤ 8 }
+    requires narrow { mask_width mask ≤ 8 }
     requires widens { Widens t.now }
     ensures { result ≡ alpha_of mask n }
 {

@@ -28,7 +28,7 @@ pub struct State {
 // A play of record s. Behind the opcode stand the clip's four numbers, the brush and a tag, which is not looked at.
 pub fn play(surface: &mut [u32], journal: &mut [u8], m: State, s: &[u8], front: &[u8]) -> Answer
     requires { (m.pixels ≤ length surface.old) × (m.bytes ≤ length journal.old) }
-    ensures journal_after { outcome_of result (take m.pixels surface.new) (take m.bytes journal.new)
+    ensures outcome { outcome_of result (take m.pixels surface.new) (take m.bytes journal.new)
         ≡ play_outcome m.width m.height (play_asked s.now front.now)
         (memory_with (take m.pixels surface.old) (take m.bytes journal.old) m.used) }
     ensures rest { (Rest m.pixels surface.old surface.new) × (Rest m.bytes journal.old journal.new) }
@@ -50,7 +50,7 @@ pub fn play(surface: &mut [u32], journal: &mut [u8], m: State, s: &[u8], front: 
 // An undo of the last play.
 pub fn undo(surface: &mut [u32], journal: &[u8], m: State) -> Answer
     requires { (m.pixels ≤ length surface.old) × (m.bytes ≤ length journal.now) }
-    ensures journal_after { outcome_of result (take m.pixels surface.new) (take m.bytes journal.now)
+    ensures outcome { outcome_of result (take m.pixels surface.new) (take m.bytes journal.now)
         ≡ undo_of m.width m.height (memory_with (take m.pixels surface.old) (take m.bytes journal.now) m.used) }
     ensures rest { Rest m.pixels surface.old surface.new }
 {

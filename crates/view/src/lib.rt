@@ -1,5 +1,5 @@
 // A reading as one answer: its status, the header part, the view and the palette, in a struct that holds the record's own bytes. No
-// `requires`, every byte string is answered. The borrow checker covers no function over a struct that holds a slice: `read` is walked.
+// `requires`, every byte string is answered.
 #![tactic(auto)]
 
 ghost use Rattle.view.specs.View.{IsWhole};

@@ -16,7 +16,7 @@ of_source-requires-clause-source_row c =
     let format = c.is_format1.ensures in
     let masks = c.masks-masks.ensures ∙ ap (masks_in c.args.p.record.source.header) format in
     let inside = columns_inside c.args.p ready.good _ _ c.requires.mapped ready.column_numbers in
-    record { good = ready.good; masks = masks; colours = c.requires.palette_value.1; shows = c.requires.palette_value.0; inside = inside }
+    record { good = ready.good; masks = masks; colours = c.requires.source_palette.1; shows = c.requires.source_palette.0; inside = inside }
 
 pub of_mask-requires-clause-mask_row : goal.of_mask-requires-clause-mask_row
 of_mask-requires-clause-mask_row c =
@@ -35,7 +35,7 @@ loop-k-preserved c =
     let bits = c.of_mask.new.out in
     let j = p.target.rows.index + l.k in
     let long = length-take-le (length columns) colours
-    (omega (arith, l.invariant.1, c.of_source.ensures.long, mapped.as_many, c.requires.count_in_bounds.0)) in (
+    (omega (arith, l.invariant.1, c.of_source.ensures.long, mapped.as_many, c.requires.blank_buffers.0)) in (
       rows_more s p l.k c.rule-rule.result (take (length columns) colours) (take (length columns) bits) c.rule-rule.ensures
           (colours_are s p columns mask_columns mapped j _ _ l.invariant.3 c.of_source.ensures)
           (bits_are s p columns mask_columns mapped j _ _ l.invariant.4 c.of_mask.ensures)

@@ -12,8 +12,8 @@ loop-i-preserved c =
     let l = o in
     running_turns _ _ _ _ _ _ _ _ _ _ _ _ _ l.loop-i.invariant l.loop-i-test.true _ _ _ _ _ o.one-step.ensures (omega arith) (omega arith) (omega arith)
 
-pub returns-clause-result_after : goal.returns-clause-result_after
-returns-clause-result_after c = search running_memory
+pub returns-clause-leaves : goal.returns-clause-leaves
+returns-clause-leaves c = search running_memory
 
-pub returns-clause-answers_after : goal.returns-clause-answers_after
-returns-clause-answers_after c = search running_answers
+pub returns-clause-writes : goal.returns-clause-writes
+returns-clause-writes c = search running_answers

@@ -78,7 +78,7 @@ restore-requires c =
     let inside = named_inside a.width a.height a.surface.now a.journal.now a.used _ at_status.status-status.ensures passes _
     at_off.if-last-named.false in
     let whole = surface_whole a.width a.height a.surface.now a.journal.now a.used _ at_status.status-status.ensures passes in
-    record { stride_in_bounds = inside; surface_len = whole; n_value = sym at_off.any_off.ensures ∙ c.if-any_off.false }
+    record { in_journal = inside; whole_surface = whole; on_surface = sym at_off.any_off.ensures ∙ c.if-any_off.false }
 
 pub returns : goal.returns
 returns c =

@@ -32,7 +32,7 @@ bits-requires c =
     let fields = fields_ok p fit there in
     let row = mask_row_in p.y start.args.j p.header _ _ fields at_row.magnitude-rows.ensures at_row.mask_column-row.ensures in
     let reach = line_reaches start.args.s.now p _ _ columns fit there row c.row-line.ensures (start.requires.mask_row.inside there) in
-    (start.requires.columns_in_bounds, bits_reach p.header c.row-line.result.now columns fields reach)
+    (start.requires.room, bits_reach p.header c.row-line.result.now columns fields reach)
 
 pub returns-then-p : goal.returns-then-p
 returns-then-p c =

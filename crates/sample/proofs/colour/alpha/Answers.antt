@@ -11,7 +11,7 @@ returns-then-mask-eq0 c = rw c.if-mask-eq0.true
 
 pub channel8-requires-clause-channel : goal.channel8-requires-clause-channel
 channel8-requires-clause-channel c =
-    record { some = width_pos c.args.mask (omega arith) c.ranges.mask.fits; most = c.requires.mask_bound }
+    record { some = width_pos c.args.mask (omega arith) c.ranges.mask.fits; most = c.requires.narrow }
 
 pub returns : goal.returns
 unfolding alpha_of
