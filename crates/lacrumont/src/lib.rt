@@ -1,4 +1,5 @@
-// The C entry points: include/lacrumont.h documents them. They take every input.
+// The C entry points, which take every input: include/lacrumont.h documents them. From a library `no_mangle` exports nothing: lacrumont_c
+// exports them.
 #![tactic(auto)]
 
 ghost use Rattle.std.specs.Prelude.{◌≡◌};

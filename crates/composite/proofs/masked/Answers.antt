@@ -10,11 +10,10 @@ use Rattle.composite.proofs.masked.Goals as goal
 
 pub loop-i-preserved : goal.loop-i-preserved
 loop-i-preserved c =
-    let at_loop = c in
-    let a = at_loop.args in
+    let a = c.args in
     let rule = Masked a.foreground a.background a.brush in
     turns (λ (i old : ℕ). painted_by rule (get_or a.colours.now i 0) (get_or a.bits.now i 0) old) _ _ _ _ _ _ _ _ _ _ _ _
-    at_loop.loop-i.invariant (omega arith) c.one_of.ensures c.put.ensures
+    c.loop-i.invariant (omega arith) c.one_of.ensures c.put.ensures
 
 pub returns : goal.returns
 returns c = row_ends _ _ _ _ _ _ _ _ _ _ _ c.loop-i.invariant c.loop-i-test.false

@@ -9,10 +9,9 @@ use Rattle.composite.proofs.over1.Goals as goal
 
 pub loop-i-preserved : goal.loop-i-preserved
 loop-i-preserved c =
-    let at_loop = c in
-    let a = at_loop.args in
+    let a = c.args in
     turns (λ (i old : ℕ). over1 (get_or a.colours.now i 0) old a.c) _ _ _ _ _ _ _ _ _ _ _ _
-    at_loop.loop-i.invariant (omega arith) c.pixel1.ensures c.put.ensures
+    c.loop-i.invariant (omega arith) c.pixel1.ensures c.put.ensures
 
 pub returns : goal.returns
 returns c = row_ends _ _ _ _ _ _ _ _ _ _ _ c.loop-i.invariant c.loop-i-test.false

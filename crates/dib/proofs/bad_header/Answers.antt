@@ -8,7 +8,4 @@ use Rattle.dib.proofs.bad_header.Goals as goal
 pub returns : goal.returns
 unfolding bad_header
 returns c =
-    let at_table_start = c in
-    let at_bad_fields = at_table_start in
-    let start = at_bad_fields in
-    λ t. at_bad_fields.bad_fields.ensures t || ltb start.args.len (at_table_start.table_start.ensures.0 t + 4 * c.table_entries.ensures.0 t)
+    λ t. c.bad_fields.ensures t || ltb c.args.len (c.table_start.ensures.0 t + 4 * c.table_entries.ensures.0 t)

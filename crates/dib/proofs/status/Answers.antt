@@ -25,13 +25,7 @@ bits_needed-requires c = passed_fields _ _ (sym c.bad_header.ensures ∙ c.if-ba
 pub returns : goal.returns
 unfolding dib_status
 returns c =
-    let at_given = c in
-    let at_bits_needed = at_given in
-    let at_bad_masks = at_bits_needed in
-    let at_if1 = at_bad_masks in
-    let at_bad_header = at_if1 in
-    let start = at_bad_header in
-    let a = start.args in
-    let t : bad_header a.len a.h ≡ false = sym at_bad_header.bad_header.ensures ∙ at_if1.if-bad_header.false in
-    let needed = at_given.given.ensures ∙ ap (λ (n : ℕ). given 10 (ltb a.bits n) 0) at_bits_needed.bits_needed.ensures in
-    c.given-2.ensures ∙ (λ u. given 9 (at_bad_masks.bad_masks.ensures u) (needed u)) ∙ sym (cond_false _ _ _ t)
+    let a = c.args in
+    let t : bad_header a.len a.h ≡ false = sym c.bad_header.ensures ∙ c.if-bad_header.false in
+    let needed = c.given.ensures ∙ ap (λ (n : ℕ). given 10 (ltb a.bits n) 0) c.bits_needed.ensures in
+    c.given-2.ensures ∙ (λ u. given 9 (c.bad_masks.ensures u) (needed u)) ∙ sym (cond_false _ _ _ t)

@@ -6,6 +6,5 @@ use Rattle.draw.proofs.fill_mask_columns.Goals as goal
 
 pub of_mask-requires : goal.of_mask-requires
 of_mask-requires c =
-    let start = c in
-    let target = extents start.args.r start.requires.0 in
-    (omega (arith, start.requires.2, target.columns.1), start.requires.1, mask_wide start.args.r start.requires.0 c.if-p.true)
+    let target = extents c.args.r c.requires.0 in
+    (omega (arith, c.requires.2, target.columns.1), c.requires.1, mask_wide c.args.r c.requires.0 c.if-p.true)

@@ -20,8 +20,7 @@ returns-then-bits-eq24 c = search depths
 
 pub row32-requires : goal.row32-requires
 row32-requires c =
-    let start = c in
-    let e : start.args.bits ≡ 32 = search last_depth in
+    let e : c.args.bits ≡ 32 = search last_depth in
     search depths
 
 pub returns : goal.returns

@@ -8,9 +8,7 @@ one-step-requires c = (search running_stands, omega arith)
 
 pub loop-i-preserved : goal.loop-i-preserved
 loop-i-preserved c =
-    let o = c in
-    let l = o in
-    running_turns _ _ _ _ _ _ _ _ _ _ _ _ _ l.loop-i.invariant l.loop-i-test.true _ _ _ _ _ o.one-step.ensures (omega arith) (omega arith) (omega arith)
+    running_turns _ _ _ _ _ _ _ _ _ _ _ _ _ c.loop-i.invariant c.loop-i-test.true _ _ _ _ _ c.one-step.ensures (omega arith) (omega arith) (omega arith)
 
 pub returns-clause-leaves : goal.returns-clause-leaves
 returns-clause-leaves c = search running_memory

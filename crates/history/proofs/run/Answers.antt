@@ -15,7 +15,5 @@ returns-then-answers-calls c = search run_full
 
 pub returns : goal.returns
 returns c =
-    let at_all = c in
-    let known = at_all in
-    let p : Words32 known.args.surface.now = λ k. omega (arith, known.slice_known-1.given k) in
+    let p : Words32 c.args.surface.now = λ k. omega (arith, c.slice_known-1.given k) in
     search (run_done, p)

@@ -4,9 +4,7 @@ use Rattle.judge.proofs.check.Goals as goal
 
 pub returns : goal.returns
 returns c =
-    let at_record = c in
-    let at_row = at_record in
-    check_is at_row.args.s.now at_row.read_u32-kind.ensures at_row.of-row.ensures.row
-    at_record.read-f.ensures at_record.record_of-r.ensures c.frame.ensures
+    check_is c.args.s.now c.read_u32-kind.ensures c.of-row.ensures.row
+    c.read-f.ensures c.record_of-r.ensures c.frame.ensures
     c.parts.ensures c.or_else-framed.ensures
     c.later_status.ensures c.or_else.ensures c.settle.ensures

@@ -8,6 +8,4 @@ use Rattle.judge.proofs.picture_status.Goals as goal
 pub returns : goal.returns
 unfolding picture_status
 returns c =
-    let at_status = c in
-    let start = at_status in
-    c.either.ensures ∙ ap (λ (n : ℕ). cond start.args.p.present n 0) at_status.status.ensures
+    c.either.ensures ∙ ap (λ (n : ℕ). cond c.args.p.present n 0) c.status.ensures

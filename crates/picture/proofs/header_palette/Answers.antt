@@ -10,29 +10,25 @@ use Rattle.picture.proofs.header_palette.Goals as goal
 
 pub slice_bounds-read-count : goal.slice_bounds-read-count
 slice_bounds-read-count c =
-    let a = c in
-    omega (arith, entries_in a.args.header.now a.args.h a.requires _ _ c.table_start-from.ensures.0 c.shown_entries-n.ensures.0)
+    omega (arith, entries_in c.args.header.now c.args.h c.requires _ _ c.table_start-from.ensures.0 c.shown_entries-n.ensures.0)
 
 pub slice_bounds-read-start : goal.slice_bounds-read-start
 slice_bounds-read-start c =
-    let a = c in
     let n = c.shown_entries-n in
     let from = c.table_start-from in
-    let h : from.result + 4 * n.result ≤ length a.args.header.now =
-    entries_in a.args.header.now a.args.h a.requires _ _ from.ensures.0 n.ensures.0 in
+    let h : from.result + 4 * n.result ≤ length c.args.header.now =
+    entries_in c.args.header.now c.args.h c.requires _ _ from.ensures.0 n.ensures.0 in
     search rules
 
 pub read-requires : goal.read-requires
 read-requires c =
-    let a = c in
     let n = c.shown_entries-n in
-    let few = entries_bound a.args.h (passed_fields _ a.args.h a.requires) in
-    let h = entries_in a.args.header.now a.args.h a.requires _ _ c.table_start-from.ensures.0 n.ensures.0 in
-    (omega (arith, n.ensures.1, few), table_in a.args.header.now _ _ h)
+    let few = entries_bound c.args.h (passed_fields _ c.args.h c.requires) in
+    let h = entries_in c.args.header.now c.args.h c.requires _ _ c.table_start-from.ensures.0 n.ensures.0 in
+    (omega (arith, n.ensures.1, few), table_in c.args.header.now _ _ h)
 
 pub returns : goal.returns
 returns c =
-    let a = c in
     let n = c.shown_entries-n in
-    let e = table_palette a.args.header.now a.args.h a.requires _ _ c.table_start-from.ensures.0 n.ensures.0 in
+    let e = table_palette c.args.header.now c.args.h c.requires _ _ c.table_start-from.ensures.0 n.ensures.0 in
     (c.read.ensures.0 ∙ e, c.read.ensures.1)

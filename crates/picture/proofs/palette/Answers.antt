@@ -11,15 +11,13 @@ use Rattle.picture.proofs.palette.Goals as goal
 
 pub header_palette-requires : goal.header_palette-requires
 header_palette-requires c =
-    let a = c in
-    ap (λ (k : ℕ). bad_header k a.args.p.header) (ap length c.header_part.ensures ∙ length_header a.args.s.now a.args.p a.requires)
-    ∙ (a.requires.sound c.if-p.true).header_ok
+    ap (λ (k : ℕ). bad_header k c.args.p.header) (ap length c.header_part.ensures ∙ length_header c.args.s.now c.args.p c.requires)
+    ∙ (c.requires.sound c.if-p.true).header_ok
 
 pub returns-then-p : goal.returns-then-p
 unfolding picture_palette
 returns-then-p c =
-    let a = c in
-    let e = c.header_palette.ensures.0 ∙ ap (λ (l : List ℕ). header_palette l a.args.p.header) c.header_part.ensures in
+    let e = c.header_palette.ensures.0 ∙ ap (λ (l : List ℕ). header_palette l c.args.p.header) c.header_part.ensures in
     (e ∙ sym (cond_true _ _ _ c.if-p.true), c.header_palette.ensures.1)
 
 pub returns : goal.returns

@@ -12,17 +12,12 @@ returns-in-Refused c = search play_refused
 
 pub accepted-requires : goal.accepted-requires
 accepted-requires c =
-    let at_rec = c in
-    let at_check = at_rec in
-    let passes = sym at_check.status-status.ensures ∙ at_check.if-status-ne0.false in
-    (passes, (accepted _ _ (sym c.in-Accepted.is ∙ at_check.check.ensures)).1)
+    let passes = sym c.status-status.ensures ∙ c.if-status-ne0.false in
+    (passes, (accepted _ _ (sym c.in-Accepted.is ∙ c.check.ensures)).1)
 
 pub returns : goal.returns
 returns c =
-    let at_rec = c in
-    let at_check = at_rec in
-    let start = at_check in
-    let a = start.args in
+    let a = c.args in
     play_accepted a.width a.height a.surface.now a.journal.now a.used a.s.now a.terms _
-    at_check.status-status.ensures at_check.if-status-ne0.false _ at_check.check.ensures c.in-Accepted.rec _
+    c.status-status.ensures c.if-status-ne0.false _ c.check.ensures c.in-Accepted.rec _
     c.in-Accepted.is c.accepted.ensures

@@ -4,5 +4,4 @@ use Rattle.reading.proofs.palette.Goals as goal
 
 pub returns : goal.returns
 returns c =
-    let a = c in
-    palette_is _ _ a.requires _ c.header_part-header.ensures.bytes _ c.read.ensures.0
+    palette_is _ _ c.requires _ c.header_part-header.ensures.bytes _ c.read.ensures.0

@@ -8,9 +8,7 @@ use Rattle.emr.proofs.shared.parts.Goals as goal
 pub returns-then-f : goal.returns-then-f
 unfolding shared_parts
 returns-then-f c =
-    let at_within2 = c in
-    let at_within = at_within2 in
-    λ t. at_within.within.ensures t || at_within2.within-then-f.ensures t || c.between.ensures t
+    λ t. c.within.ensures t || c.within-then-f.ensures t || c.between.ensures t
 
 pub returns : goal.returns
 returns c = c.within-2.ensures ∙ sym (no_mask _ c.if-f.false)

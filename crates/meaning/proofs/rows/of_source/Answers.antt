@@ -6,28 +6,23 @@ use Rattle.meaning.proofs.rows.of_source.Goals as goal
 
 pub row-line-requires : goal.row-line-requires
 row-line-requires c =
-    let start = c in
     let there = c.if-p.true in
-    let row = row_inside start.args.r start.requires.source_row.good there start.args.j _ start.requires.in_rows.0 c.source_column-row.ensures in
-    (start.requires.source_row.good.source, there, row)
+    let row = row_inside c.args.r c.requires.source_row.good there c.args.j _ c.requires.in_rows.0 c.source_column-row.ensures in
+    (c.requires.source_row.good.source, there, row)
 
 pub row-requires : goal.row-requires
 row-requires c =
-    let at_row = c in
-    let start = at_row in
-    let r = start.args.r in
-    let there = at_row.if-p.true in
-    let row = row_inside r start.requires.source_row.good there start.args.j _ start.requires.in_rows.0 at_row.source_column-row.ensures in
-    let columns = start.args.columns.now in
-    let fit = start.requires.source_row.good.source in
-    let reach = line_reaches start.args.s.now r.source _ _ columns fit there row c.row-line.ensures (start.requires.source_row.inside there) in
-    let sound = as_readable r start.args.m start.requires.source_row.good there start.requires.source_row.masks in
-    record { readable = sound; in_row = record { long = start.requires.in_rows.1; reach = reach }; colours = start.requires.source_row.colours }
+    let r = c.args.r in
+    let there = c.if-p.true in
+    let row = row_inside r c.requires.source_row.good there c.args.j _ c.requires.in_rows.0 c.source_column-row.ensures in
+    let columns = c.args.columns.now in
+    let fit = c.requires.source_row.good.source in
+    let reach = line_reaches c.args.s.now r.source _ _ columns fit there row c.row-line.ensures (c.requires.source_row.inside there) in
+    let sound = as_readable r c.args.m c.requires.source_row.good there c.requires.source_row.masks in
+    record { readable = sound; in_row = record { long = c.requires.in_rows.1; reach = reach }; colours = c.requires.source_row.colours }
 
 pub returns-then-p : goal.returns-then-p
 returns-then-p c =
-    let at_row = c in
-    let start = at_row in
-    let there = at_row.if-p.true in
-    filled_where _ _ there (source_filled start.args.s.now start.args.r start.args.m _ _ start.args.columns.now start.args.j _
-    start.requires.source_row.masks start.requires.source_row.shows there at_row.source_column-row.ensures at_row.row-line.ensures _ _ c.row.ensures)
+    let there = c.if-p.true in
+    filled_where _ _ there (source_filled c.args.s.now c.args.r c.args.m _ _ c.args.columns.now c.args.j _
+    c.requires.source_row.masks c.requires.source_row.shows there c.source_column-row.ensures c.row-line.ensures _ _ c.row.ensures)

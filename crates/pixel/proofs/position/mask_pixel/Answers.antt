@@ -8,5 +8,4 @@ use Rattle.pixel.proofs.position.mask_pixel.Goals as goal
 pub returns : goal.returns
 unfolding mask_pixel
 returns c =
-    let a = c in
-    c.remainder.ensures ∙ ap (λ (z : ℤ). remainder z a.args.extent) (sum_seen a.args.corner a.args.i a.ranges.corner a.ranges.i.fits)
+    c.remainder.ensures ∙ ap (λ (z : ℤ). remainder z c.args.extent) (sum_seen c.args.corner c.args.i c.ranges.corner c.ranges.i.fits)

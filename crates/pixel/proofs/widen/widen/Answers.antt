@@ -13,6 +13,5 @@ overflow_sub-result c = omega (arith, place c.args.w c.args.v c.requires.0 c.req
 pub returns : goal.returns
 unfolding Widens
 returns c =
-    let a = c in
-    ap (λ (n : ℕ). get_or a.args.t.now n 0) (place a.args.w a.args.v a.requires.0 a.requires.1 a.requires.2).0
-    ∙ a.requires.3 a.args.w a.args.v a.requires.0 a.requires.1 a.requires.2
+    ap (λ (n : ℕ). get_or c.args.t.now n 0) (place c.args.w c.args.v c.requires.0 c.requires.1 c.requires.2).0
+    ∙ c.requires.3 c.args.w c.args.v c.requires.0 c.requires.1 c.requires.2

@@ -6,14 +6,13 @@ use Rattle.sample.proofs.ColourLaws.{shift_lt, channel_lt}
 use Rattle.sample.proofs.colour.channel8.Goals as goal
 
 pub channel-v-requires : goal.channel-v-requires
-channel-v-requires c = let a = c in omega (arith, shift_lt a.args.mask a.requires.channel.some a.ranges.mask.fits)
+channel-v-requires c = omega (arith, shift_lt c.args.mask c.requires.channel.some c.ranges.mask.fits)
 
 pub widen-requires : goal.widen-requires
 widen-requires c =
-    let a = c in
     let w = c.width-w.result in
-    let v : c.channel-v.result < 2 ^ w = rw c.channel-v.ensures (channel_lt w c.shift.result a.args.n) in
-    (omega arith, omega arith, v, a.requires.widens)
+    let v : c.channel-v.result < 2 ^ w = rw c.channel-v.ensures (channel_lt w c.shift.result c.args.n) in
+    (omega arith, omega arith, v, c.requires.widens)
 
 pub returns : goal.returns
 unfolding channel8

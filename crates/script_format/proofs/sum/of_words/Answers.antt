@@ -9,10 +9,9 @@ use Rattle.script_format.proofs.sum.of_words.Goals as goal
 
 pub loop-k-preserved : goal.loop-k-preserved
 loop-k-preserved c =
-    let at_loop = c in
-    let s = at_loop.args.s.now in
-    let more = ap (λ (h : ℕ). sum_from h (bytes_of (drop (at_loop.loop-k.k + 1) s))) c.next_word-h.ensures in
-    (omega arith, more ∙ word_more _ _ _ c.loop-k-test.true ∙ at_loop.loop-k.invariant.1)
+    let s = c.args.s.now in
+    let more = ap (λ (h : ℕ). sum_from h (bytes_of (drop (c.loop-k.k + 1) s))) c.next_word-h.ensures in
+    (omega arith, more ∙ word_more _ _ _ c.loop-k-test.true ∙ c.loop-k.invariant.1)
 
 pub returns : goal.returns
 returns c = sym (word_end _ _ _ c.loop-k-test.false) ∙ c.loop-k.invariant.1
