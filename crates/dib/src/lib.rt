@@ -2,13 +2,16 @@
 #![tactic(auto)]
 
 ghost use Rattle.std.specs.Prelude.{◌≡◌, false, ◌<◌, length};
+ghost use Rattle.words.specs.Refusal.{answer_of};
 ghost use Rattle.dib.specs.Header.{masks_at, header_of, top_down, table_start, entries};
 ghost use Rattle.dib.specs.HeaderStatus.{bad_fields, bad_header, bad_masks, bits_needed, dib_status};
 
+use words::refusal::Refusal;
+
 mod limits;
 
-// The masks of a pixel's channels. An alpha of 0 is none.
-#[derive(Clone, Copy)]
+// The masks of a pixel's channels. An alpha of 0 is none, and no Option, since `masks_at` and a reading's layout give the number.
+#[derive(Clone, Copy, Default, PartialEq, Eq)]
 pub struct Masks {
     pub red: u32,
     pub green: u32,
@@ -16,7 +19,8 @@ pub struct Masks {
     pub alpha: u32,
 }
 
-// The header's numbers as written: width and height in two's complement. A mask is 0 where the header has none.
+// The header's numbers as written: width and height in two's complement. A mask is 0 where the header has none. Compression is no enum,
+// since `header_of` gives every number that a header can hold, and a reading hands it out.
 #[derive(Clone, Copy)]
 pub struct Header {
     pub size: u32,
@@ -33,12 +37,18 @@ pub struct Header {
 fn read_masks(h: &[u8], compression: u32, size: u32) -> Masks
     ensures { result ≡ masks_at h.now compression size }
 {
-    let fields = compression == 3;
+    if compression != 3 {
+        return Masks::default();
+    }
     Masks {
-        red: words::either(fields, words::read_u32(h, 40), 0),
-        green: words::either(fields, words::read_u32(h, 44), 0),
-        blue: words::either(fields, words::read_u32(h, 48), 0),
-        alpha: words::either(fields & (size == 108), words::read_u32(h, 52), 0),
+        red: words::read::<4>(h, 40),
+        green: words::read::<4>(h, 44),
+        blue: words::read::<4>(h, 48),
+        alpha: if size == 108 {
+            words::read::<4>(h, 52)
+        } else {
+            0
+        },
     }
 }
 
@@ -46,13 +56,13 @@ fn read_masks(h: &[u8], compression: u32, size: u32) -> Masks
 pub fn read(h: &[u8]) -> Header
     ensures { result ≡ header_of h.now }
 {
-    let size = words::read_u32(h, 0);
-    let width = words::read_u32(h, 4);
-    let height = words::read_u32(h, 8);
-    let planes = words::read_u16(h, 12);
-    let bits = words::read_u16(h, 14);
-    let compression = words::read_u32(h, 16);
-    let colours = words::read_u32(h, 32);
+    let size = words::read::<4>(h, 0);
+    let width = words::read::<4>(h, 4);
+    let height = words::read::<4>(h, 8);
+    let planes = words::read::<2>(h, 12);
+    let bits = words::read::<2>(h, 14);
+    let compression = words::read::<4>(h, 16);
+    let colours = words::read::<4>(h, 32);
     let masks = read_masks(h, compression, size);
     Header {
         size,
@@ -67,21 +77,32 @@ pub fn read(h: &[u8]) -> Header
 }
 
 // Where the colour table begins in the header part.
+#[tactic(auto, unfolding(crate::specs::Header::table_start))]
 pub fn table_start(h: Header) -> usize
     ensures { (result ≡ table_start h) × (result < 8589934592) }
 {
-    h.size as usize + words::either((h.compression == 3) & (h.size == 40), 12, 0) as usize
+    let behind_masks = if (h.compression == 3) & (h.size == 40) {
+        12
+    } else {
+        0
+    };
+    h.size as usize + behind_masks
 }
 
 // How many entries the colour table has.
+#[tactic(auto, using(crate::proofs::HeaderLaws::full_table), unfolding(crate::specs::Header::entries))]
 pub fn table_entries(h: Header) -> usize
     ensures { (result ≡ entries h) × (result < 4294967296) }
 {
-    let full = words::either(h.bits <= 8, limits::most_colours(h.bits), 0);
-    words::either(h.colours == 0, full, h.colours) as usize
+    let entries = match h.colours {
+        0 if h.bits <= 8 => limits::most_colours(h.bits),
+        n => n,
+    };
+    entries as usize
 }
 
 // Status 8, all but the length of the header part.
+#[tactic(auto, unfolding(crate::specs::HeaderStatus::bad_fields))]
 fn bad_fields(h: Header) -> bool
     ensures { result ≡ bad_fields h }
 {
@@ -95,6 +116,7 @@ fn bad_fields(h: Header) -> bool
 }
 
 // Status 8.
+#[tactic(auto, unfolding(crate::specs::HeaderStatus::bad_header))]
 fn bad_header(len: usize, h: Header) -> bool
     ensures { result ≡ bad_header len h }
 {
@@ -124,16 +146,19 @@ pub fn bits_needed(h: Header) -> u64
     pixel::position::row_length(h.width, h.bits) * words::magnitude(h.height) as u64
 }
 
-// The first of 8, 9 and 10 that applies to a header whose part has `len` bytes and a bits part of `bits` bytes, or 0.
-pub fn status(len: usize, h: Header, bits: u32) -> u32
-    ensures { result ≡ dib_status len h bits }
+// The first of 8, 9 and 10 that applies to a header whose part has `len` bytes and a bits part of `bits` bytes.
+#[tactic(auto, using(crate::proofs::HeaderLaws::passed_fields), unfolding(crate::specs::HeaderStatus::dib_status))]
+pub fn status(len: usize, h: Header, bits: u32) -> Result<(), Refusal>
+    ensures { answer_of result ≡ dib_status len h bits }
 {
     if bad_header(len, h) {
-        return 8;
+        return Err(Refusal::BadHeader);
     }
-    words::given(
-        9,
-        bad_masks(h),
-        words::given(10, (bits as u64) < bits_needed(h), 0),
-    )
+    if bad_masks(h) {
+        return Err(Refusal::BadMasks);
+    }
+    if (bits as u64) < bits_needed(h) {
+        return Err(Refusal::BitsTooShort);
+    }
+    Ok(())
 }

@@ -1,63 +1,41 @@
 -- A picture that status 6 lets pass lies in the record, and an absent one is empty; parts that 21 lets pass are apart. Assumes nothing.
-use mathlib.Core.Path.{◌≡◌, refl}
-use mathlib.Core.Bool.{Bool, true, false, cond, ◌&&◌, ◌||◌}
+use mathlib.Core.Path.{◌≡◌}
+use mathlib.Core.Bool.{false}
 use mathlib.Core.List.{List}
-use Prim.Native.Nat.{ℕ, ◌+◌, ◌≤◌}
-use native.Mathlib.Omega.{arith}
-use lib.Dec.{eqb, ltb, lit<}
+use Prim.Native.Nat.{ℕ, ◌+◌, ◌≤◌, zero-le}
+use lib.Dec.{ltb, lit<}
 use lib.ListN.{length}
-use borrow.Author.Tests.{eqb-true, ltb-false, not-false}
-use Rattle.words.proofs.ChoiceLaws.{or_none, and_both, given_none}
+use borrow.Author.Tests.{ltb-false}
+use Rattle.std.specs.Prelude.{Option, Some, None}
+use Rattle.words.proofs.ChoiceLaws.{or_none, given_none}
 use Rattle.emr.specs.declared.Offsets.{Offsets}
 use Rattle.emr.specs.declared.PictureFields.{PictureFields}
 use Rattle.emr.specs.declared.Fields.{Fields}
-use Rattle.emr.specs.Fixed.{is_present, no_fields, picture_at, fields_at}
-use Rattle.emr.specs.SharedParts.{shared_parts, parts_of, Apart}
+use Rattle.emr.specs.Fixed.{fields_at}
+use Rattle.emr.specs.SharedParts.{header_range, bits_range, shared_parts, parts_of, Apart}
 use Rattle.emr.specs.FrameStatus.{outside, bad_parts, any_outside, parts_status}
 use Rattle.emr.proofs.SharedPartsLaws.{apart}
 
-pub record Inside (len : ℕ) (p : PictureFields) : Type 0 where
-  pub header : p.bmi + p.bmi_len ≤ len
-  pub bits : p.bits + p.bits_len ≤ len
-
--- a picture's flag is that of its four numbers
-abbrev Flagged : PictureFields → Type 0
-Flagged p = p.present ≡ is_present p.bmi p.bmi_len p.bits p.bits_len
-
-absent_empty : (p : PictureFields) → is_present p.bmi p.bmi_len p.bits p.bits_len ≡ false → (len : ℕ) → Inside len p
-absent_empty p e len =
-    let d = and_both _ (eqb p.bits_len 0) (not-false _ e) in
-    let b = and_both _ (eqb p.bits 0) d.0 in
-    let a = and_both (eqb p.bmi 0) (eqb p.bmi_len 0) b.0 in
-    let w : p.bmi ≡ 0 = eqb-true _ _ a.0 in
-    let x : p.bmi_len ≡ 0 = eqb-true _ _ a.1 in
-    let y : p.bits ≡ 0 = eqb-true _ _ b.1 in
-    let z : p.bits_len ≡ 0 = eqb-true _ _ d.1 in
-    record { header = omega arith; bits = omega arith }
+-- both parts end by len; those of an absent picture are empty
+pub record Inside (len : ℕ) (p : Option PictureFields) : Type 0 where
+  pub header : (header_range p).at + (header_range p).size ≤ len
+  pub bits : (bits_range p).at + (bits_range p).size ≤ len
 
 inside_of : (len fixed at size : ℕ) → outside len fixed at size ≡ false → at + size ≤ len
 inside_of len fixed at size e = ltb-false len (at + size) (or_none (ltb at fixed) (ltb len (at + size)) e).1
 
-parts_inside : (len fixed : ℕ) (p : PictureFields) → Flagged p → bad_parts len fixed p ≡ false → Inside len p
-parts_inside len fixed p f e = go p.present f e
-  where
-    go : (t : Bool) → t ≡ is_present p.bmi p.bmi_len p.bits p.bits_len
-        → (t && (outside len fixed p.bmi p.bmi_len || outside len fixed p.bits p.bits_len)) ≡ false → Inside len p
-    go true a q =
-        let o = or_none (outside len fixed p.bmi p.bmi_len) _ q in
-        record { header = inside_of len fixed p.bmi p.bmi_len o.0; bits = inside_of len fixed p.bits p.bits_len o.1 }
-    go false a q = let b : is_present p.bmi p.bmi_len p.bits p.bits_len ≡ false = cc in absent_empty p b len
-
-mask_flagged : (s : List ℕ) (mask : ℕ) (t : Bool) → Flagged (cond t no_fields (picture_at s mask (mask + 8) (mask + 12)))
-mask_flagged s mask true = refl
-mask_flagged s mask false = refl
+parts_inside : (len fixed : ℕ) (p : Option PictureFields) → bad_parts len fixed p ≡ false → Inside len p
+parts_inside len fixed None e = record { header = zero-le; bits = zero-le }
+parts_inside len fixed (Some p) e =
+    let o = or_none (outside len fixed p.bmi p.bmi_len) _ e in
+    record { header = inside_of len fixed p.bmi p.bmi_len o.0; bits = inside_of len fixed p.bits p.bits_len o.1 }
 
 pub inside : (s : List ℕ) (at : Offsets) → parts_status s at (fields_at s at) ≡ 0
     → Inside (length s) (fields_at s at).source × Inside (length s) (fields_at s at).mask
-unfolding parts_status fields_at
+unfolding parts_status
 inside s at e =
     let o = or_none (bad_parts (length s) at.fixed (fields_at s at).source) _ (given_none 6 _ _ (lit< tt) e).0 in
-    (parts_inside _ _ (fields_at s at).source refl o.0, parts_inside _ _ (fields_at s at).mask (mask_flagged s at.mask (eqb at.mask 0)) o.1)
+    (parts_inside _ _ (fields_at s at).source o.0, parts_inside _ _ (fields_at s at).mask o.1)
 
 pub parts_apart : (s : List ℕ) (at : Offsets) (f : Fields) → parts_status s at f ≡ 0 → Apart (parts_of f)
 unfolding parts_status

@@ -1,5 +1,5 @@
 -- A record's fixed part as fields, signed ones as written. Definitions only. A byte past the record's end reads as 0.
-use Rattle.std.specs.Prelude.{ℕ, ◌+◌, Bool, false, cond, not, ◌&&◌, List, eqb}
+use Rattle.std.specs.Prelude.{ℕ, ◌+◌, Bool, cond, not, ◌&&◌, List, eqb, Option, Some, None}
 use Rattle.words.specs.Bytes.{le32}
 use Rattle.region.specs.Written.{rectangle_at}
 use Rattle.emr.specs.declared.Offsets.{Offsets}
@@ -11,9 +11,8 @@ abbrev pub is_present : (bmi bmi_len bits bits_len : ℕ) → Bool
 is_present bmi bmi_len bits bits_len = not (eqb bmi 0 && eqb bmi_len 0 && eqb bits 0 && eqb bits_len 0)
 
 -- a picture's corner, usage and four numbers, from where they stand
-abbrev pub picture_at : (s : List ℕ) (corner usage parts : ℕ) → PictureFields
-picture_at s corner usage parts = record {
-  present = is_present (le32 s parts) (le32 s (parts + 4)) (le32 s (parts + 8)) (le32 s (parts + 12));
+abbrev pub picture_fields : (s : List ℕ) (corner usage parts : ℕ) → PictureFields
+picture_fields s corner usage parts = record {
   x = le32 s corner;
   y = le32 s (corner + 4);
   usage = le32 s usage;
@@ -23,12 +22,15 @@ picture_at s corner usage parts = record {
   bits_len = le32 s (parts + 12);
 }
 
-abbrev pub no_fields : PictureFields
-no_fields = record { present = false; x = 0; y = 0; usage = 0; bmi = 0; bmi_len = 0; bits = 0; bits_len = 0 }
+-- the picture, unless it is absent
+abbrev pub picture_at : (s : List ℕ) (corner usage parts : ℕ) → Option PictureFields
+picture_at s corner usage parts =
+    cond (is_present (le32 s parts) (le32 s (parts + 4)) (le32 s (parts + 8)) (le32 s (parts + 12)))
+    (Some (picture_fields s corner usage parts)) None
 
 -- a type that has no mask: none
-abbrev pub mask_at : (s : List ℕ) (mask : ℕ) → PictureFields
-mask_at s mask = cond (eqb mask 0) no_fields (picture_at s mask (mask + 8) (mask + 12))
+abbrev pub mask_at : (s : List ℕ) (mask : ℕ) → Option PictureFields
+mask_at s mask = cond (eqb mask 0) None (picture_at s mask (mask + 8) (mask + 12))
 
 unfoldable pub fields_at : List ℕ → Offsets → Fields
 fields_at s f = record {

@@ -1,6 +1,6 @@
 -- Document 01, refusals 3 to 7: a record's length, type, Size, parts, transform and usages; with document 02, item 5, "1 to 6, 21, 7
 -- onwards". Definitions only.
-use Rattle.std.specs.Prelude.{ℕ, ◌+◌, ◌%◌, Bool, not, ◌&&◌, ◌||◌, List, length, eqb, ltb}
+use Rattle.std.specs.Prelude.{ℕ, ◌+◌, ◌%◌, Bool, false, not, ◌&&◌, ◌||◌, List, length, eqb, ltb, Option, Some, None}
 use Rattle.words.specs.Bytes.{le32}
 use Rattle.words.specs.Status.{given}
 use Rattle.emr.specs.declared.Offsets.{Offsets}
@@ -30,8 +30,9 @@ frame_status s at =
 abbrev pub outside : (len fixed at size : ℕ) → Bool
 outside len fixed at size = ltb at fixed || ltb len (at + size)
 
-abbrev pub bad_parts : (len fixed : ℕ) → PictureFields → Bool
-bad_parts len fixed p = p.present && (outside len fixed p.bmi p.bmi_len || outside len fixed p.bits p.bits_len)
+abbrev pub bad_parts : (len fixed : ℕ) → Option PictureFields → Bool
+bad_parts len fixed None = false
+bad_parts len fixed (Some p) = outside len fixed p.bmi p.bmi_len || outside len fixed p.bits p.bits_len
 
 -- 6, over both pictures
 abbrev pub any_outside : (len fixed : ℕ) → Fields → Bool
@@ -41,8 +42,9 @@ any_outside len fixed f = bad_parts len fixed f.source || bad_parts len fixed f.
 abbrev pub bad_transform : List ℕ → (at : ℕ) → Bool
 bad_transform s at = not (eqb at 0) && not (is_identity (transform_of s at))
 
-abbrev pub bad_usage : PictureFields → Bool
-bad_usage p = p.present && not (eqb p.usage 0)
+abbrev pub bad_usage : Option PictureFields → Bool
+bad_usage None = false
+bad_usage (Some p) = not (eqb p.usage 0)
 
 -- 7, over both pictures
 abbrev pub unreadable : List ℕ → Offsets → Fields → Bool

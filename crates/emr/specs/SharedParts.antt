@@ -1,6 +1,6 @@
 -- Document 02, item 5: "Any two parts of the present pictures that have a byte in common are now refused. Refusals: 21". Whole parts are
 -- meant, all cbBmi and cbBits bytes as written. Definitions only.
-use Rattle.std.specs.Prelude.{◌≡◌, ℕ, ◌+◌, ◌≤◌, ◌<◌, min, max, Bool, true, ◌&&◌, ◌||◌, ltb}
+use Rattle.std.specs.Prelude.{◌≡◌, ℕ, ◌+◌, ◌≤◌, ◌<◌, min, max, Bool, true, false, ◌||◌, ltb, Option, Some, None}
 use Rattle.emr.specs.declared.PictureFields.{PictureFields}
 use Rattle.emr.specs.declared.Fields.{Fields}
 
@@ -12,15 +12,17 @@ abbrev pub share : (a n b m : ℕ) → Bool
 share a n b m = ltb (max a b) (min (a + n) (b + m))
 
 -- a present picture's header part and its bits part
-abbrev pub share_within : PictureFields → Bool
-share_within p = p.present && share p.bmi p.bmi_len p.bits p.bits_len
+abbrev pub share_within : Option PictureFields → Bool
+share_within None = false
+share_within (Some p) = share p.bmi p.bmi_len p.bits p.bits_len
 
 -- a part of one present picture and a part of another
-abbrev pub share_between : (p q : PictureFields) → Bool
-share_between p q =
-    p.present && q.present
-    && (share p.bmi p.bmi_len q.bmi q.bmi_len || share p.bmi p.bmi_len q.bits q.bits_len
-    || share p.bits p.bits_len q.bmi q.bmi_len || share p.bits p.bits_len q.bits q.bits_len)
+abbrev pub share_between : (one other : Option PictureFields) → Bool
+share_between None other = false
+share_between (Some p) None = false
+share_between (Some p) (Some q) =
+    share p.bmi p.bmi_len q.bmi q.bmi_len || share p.bmi p.bmi_len q.bits q.bits_len
+    || share p.bits p.bits_len q.bmi q.bmi_len || share p.bits p.bits_len q.bits q.bits_len
 
 -- 21: all six pairs
 unfoldable pub shared_parts : Fields → Bool
@@ -51,11 +53,13 @@ parts a b c d source_bits = b
 parts a b c d mask_header = c
 parts a b c d mask_bits = d
 
-abbrev pub header_range : PictureFields → Range
-header_range p = range p.present p.bmi p.bmi_len
+abbrev pub header_range : Option PictureFields → Range
+header_range None = range false 0 0
+header_range (Some p) = range true p.bmi p.bmi_len
 
-abbrev pub bits_range : PictureFields → Range
-bits_range p = range p.present p.bits p.bits_len
+abbrev pub bits_range : Option PictureFields → Range
+bits_range None = range false 0 0
+bits_range (Some p) = range true p.bits p.bits_len
 
 abbrev pub parts_of : Fields → Part → Range
 parts_of f = parts (header_range f.source) (bits_range f.source) (header_range f.mask) (bits_range f.mask)

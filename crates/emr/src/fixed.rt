@@ -11,47 +11,42 @@ fn is_present(bmi: u32, bmi_len: u32, bits: u32, bits_len: u32) -> bool
     !((bmi == 0) & (bmi_len == 0) & (bits == 0) & (bits_len == 0))
 }
 
-fn picture(s: &[u8], corner: usize, usage: usize, parts: usize) -> PictureFields
+// The picture whose fields stand there, if it is present.
+fn picture(s: &[u8], corner: usize, usage: usize, parts: usize) -> Option<PictureFields>
     requires { (corner ≤ 128) × (parts ≤ 128) }
     ensures { result ≡ picture_at s.now corner usage parts }
 {
-    let bmi = words::read_u32(s, parts);
-    let bmi_len = words::read_u32(s, parts + 4);
-    let bits = words::read_u32(s, parts + 8);
-    let bits_len = words::read_u32(s, parts + 12);
-    PictureFields {
-        present: is_present(bmi, bmi_len, bits, bits_len),
-        x: words::read_u32(s, corner),
-        y: words::read_u32(s, corner + 4),
-        usage: words::read_u32(s, usage),
+    let bmi = words::read::<4>(s, parts);
+    let bmi_len = words::read::<4>(s, parts + 4);
+    let bits = words::read::<4>(s, parts + 8);
+    let bits_len = words::read::<4>(s, parts + 12);
+    if !is_present(bmi, bmi_len, bits, bits_len) {
+        return None;
+    }
+    Some(PictureFields {
+        x: words::read::<4>(s, corner),
+        y: words::read::<4>(s, corner + 4),
+        usage: words::read::<4>(s, usage),
         bmi,
         bmi_len,
         bits,
         bits_len,
-    }
+    })
 }
 
-// The mask's fields from its corner on; a type that has no mask has none.
-fn mask_picture(s: &[u8], mask: usize) -> PictureFields
+// The mask, whose fields stand from its corner on; a type without a mask has none.
+fn mask_picture(s: &[u8], mask: usize) -> Option<PictureFields>
     requires { mask ≤ 116 }
     ensures { result ≡ mask_at s.now mask }
 {
     if mask == 0 {
-        return PictureFields {
-            present: false,
-            x: 0,
-            y: 0,
-            usage: 0,
-            bmi: 0,
-            bmi_len: 0,
-            bits: 0,
-            bits_len: 0,
-        };
+        return None;
     }
     picture(s, mask, mask + 8, mask + 12)
 }
 
 // The fields of any record; a byte past its end reads as 0.
+#[tactic(auto, unfolding(crate::specs::Fixed::fields_at))]
 pub fn read(s: &[u8], at: Offsets) -> Fields
     requires { Near at }
     ensures { result ≡ fields_at s.now at }
@@ -61,14 +56,14 @@ pub fn read(s: &[u8], at: Offsets) -> Fields
     let mask = mask_picture(s, at.mask);
     Fields {
         bounds,
-        x: words::read_u32(s, 24),
-        y: words::read_u32(s, 28),
-        cx: words::read_u32(s, at.extent),
-        cy: words::read_u32(s, at.extent + 4),
-        operation: words::read_u32(s, at.operation),
+        x: words::read::<4>(s, 24),
+        y: words::read::<4>(s, 28),
+        cx: words::read::<4>(s, at.extent),
+        cy: words::read::<4>(s, at.extent + 4),
+        operation: words::read::<4>(s, at.operation),
         source,
-        cx_src: words::read_u32(s, at.extent_src),
-        cy_src: words::read_u32(s, at.extent_src + 4),
+        cx_src: words::read::<4>(s, at.extent_src),
+        cy_src: words::read::<4>(s, at.extent_src + 4),
         mask,
     }
 }

@@ -17,7 +17,8 @@ pub enum Form {
     Rop,
 }
 
-// The offsets of a type's fields; 0 where it has no such field. A type that does not stretch has its target's extent for its source's.
+// The offsets of a type's fields; 0 where it has no such field, as the table `row_of` has it, which takes numbers and no Option. A type that
+// does not stretch has its target's extent for its source's.
 #[derive(Clone, Copy)]
 pub struct Offsets {
     pub extent: usize,
@@ -53,7 +54,6 @@ pub struct Transform {
 // A picture's corner and usage, and where its header part and its bits part stand. The corner is in two's complement.
 #[derive(Clone, Copy)]
 pub struct PictureFields {
-    pub present: bool,
     pub x: u32,
     pub y: u32,
     pub usage: u32,
@@ -63,7 +63,8 @@ pub struct PictureFields {
     pub bits_len: u32,
 }
 
-// The fields of a record's fixed part: Bounds, target, operation, source and mask. Signed ones are in two's complement.
+// The fields of a record's fixed part: Bounds, target, operation, and source and mask where they are present. Signed ones are in two's
+// complement.
 #[derive(Clone, Copy)]
 pub struct Fields {
     pub bounds: Rectangle,
@@ -72,8 +73,8 @@ pub struct Fields {
     pub cx: u32,
     pub cy: u32,
     pub operation: u32,
-    pub source: PictureFields,
+    pub source: Option<PictureFields>,
     pub cx_src: u32,
     pub cy_src: u32,
-    pub mask: PictureFields,
+    pub mask: Option<PictureFields>,
 }

@@ -8,36 +8,35 @@ use crate::{Fields, PictureFields};
 fn share(a: u32, n: u32, b: u32, m: u32) -> bool
     ensures { result ≡ share_of a n b m }
 {
-    let from = words::most(a as usize, b as usize);
-    let to = words::least(a as usize + n as usize, b as usize + m as usize);
+    let from = a.max(b) as usize;
+    let to = (a as usize + n as usize).min(b as usize + m as usize);
     from < to
 }
 
 // A picture's own two parts.
-fn within(p: PictureFields) -> bool
-    ensures { result ≡ share_within p }
+fn within(picture: Option<PictureFields>) -> bool
+    ensures { result ≡ share_within picture }
 {
-    p.present & share(p.bmi, p.bmi_len, p.bits, p.bits_len)
+    picture.is_some_and(|p| share(p.bmi, p.bmi_len, p.bits, p.bits_len))
 }
 
 // A part of each of two pictures.
-fn between(p: PictureFields, q: PictureFields) -> bool
-    ensures { result ≡ share_between p q }
+fn between(one: Option<PictureFields>, other: Option<PictureFields>) -> bool
+    ensures { result ≡ share_between one other }
 {
-    p.present
-        & q.present
-        & (share(p.bmi, p.bmi_len, q.bmi, q.bmi_len)
-            | share(p.bmi, p.bmi_len, q.bits, q.bits_len)
-            | share(p.bits, p.bits_len, q.bmi, q.bmi_len)
-            | share(p.bits, p.bits_len, q.bits, q.bits_len))
+    let (Some(p), Some(q)) = (one, other) else {
+        return false;
+    };
+    share(p.bmi, p.bmi_len, q.bmi, q.bmi_len)
+        | share(p.bmi, p.bmi_len, q.bits, q.bits_len)
+        | share(p.bits, p.bits_len, q.bmi, q.bmi_len)
+        | share(p.bits, p.bits_len, q.bits, q.bits_len)
 }
 
-// All six pairs; without a mask, as most records are, one.
+// All six pairs; of absent pictures none is looked at.
+#[tactic(auto, unfolding(crate::specs::SharedParts::shared_parts))]
 pub fn parts(f: Fields) -> bool
     ensures { result ≡ shared_parts f }
 {
-    if f.mask.present {
-        return within(f.source) | within(f.mask) | between(f.source, f.mask);
-    }
-    within(f.source)
+    within(f.source) | within(f.mask) | between(f.source, f.mask)
 }

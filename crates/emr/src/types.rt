@@ -1,4 +1,5 @@
-// The table of types: a row for each.
+// The table of types: a row for each. A type stays a number: the closing record holds it, and an enum would be made and taken apart in
+// this one function.
 ghost use Rattle.std.specs.Prelude.{◌≡◌};
 ghost use Rattle.emr.specs.Types.{offsets as offsets_of, IsRow};
 
@@ -37,37 +38,30 @@ fn fields_at(
 }
 
 // A type's row; one of zeros where the type is not listed.
+#[tactic(auto, unfolding(crate::specs::Types::row_of))]
 pub fn of(kind: u32) -> Row
     ensures { IsRow kind result }
 {
-    if kind == ALPHABLEND {
-        let at = fields_at(32, 40, 44, 100, 52, 80, 84, 0, 108);
-        return Row {
-            at,
+    match kind {
+        ALPHABLEND => Row {
+            at: fields_at(32, 40, 44, 100, 52, 80, 84, 0, 108),
             form: Form::Blend,
             signed: false,
-        };
-    }
-    if kind == MASKBLT {
-        let at = fields_at(32, 40, 44, 32, 52, 80, 84, 100, 128);
-        return Row {
-            at,
+        },
+        MASKBLT => Row {
+            at: fields_at(32, 40, 44, 32, 52, 80, 84, 100, 128),
             form: Form::Rop4,
             signed: false,
-        };
-    }
-    if kind == STRETCHDIBITS {
-        let at = fields_at(72, 68, 32, 40, 0, 64, 48, 0, 80);
-        return Row {
-            at,
+        },
+        STRETCHDIBITS => Row {
+            at: fields_at(72, 68, 32, 40, 0, 64, 48, 0, 80),
             form: Form::Rop,
             signed: true,
-        };
-    }
-    let at = fields_at(0, 0, 0, 0, 0, 0, 0, 0, 0);
-    Row {
-        at,
-        form: Form::Rop,
-        signed: true,
+        },
+        _ => Row {
+            at: fields_at(0, 0, 0, 0, 0, 0, 0, 0, 0),
+            form: Form::Rop,
+            signed: true,
+        },
     }
 }

@@ -8,7 +8,7 @@ use crate::Transform;
 fn float(s: &[u8], at: usize) -> f32
     ensures { result ≡ float32 s.now at }
 {
-    let x = words::read_u32(s, at);
+    let x = words::read::<4>(s, at);
     if 0x7F800000 < x % 0x80000000 {
         0.0 / 0.0
     } else {

@@ -2,10 +2,11 @@
 use mathlib.Core.Path.{◌≡◌, refl, sym, ap, ◌∙◌}
 use mathlib.Core.Bool.{Bool, true, false, not}
 use mathlib.Core.List.{List}
-use Prim.Native.Nat.{ℕ, zero, suc, ◌≤◌}
+use Prim.Native.Nat.{ℕ, zero, suc, ◌≤◌, zero-le}
 use native.Mathlib.Omega.{arith}
 use lib.Dec.{lit≤, eqb, ltb}
 use lib.ListN.{length}
+use Rattle.std.specs.Prelude.{Option, Some, None}
 use Rattle.words.specs.Bytes.{le32}
 use Rattle.words.specs.Status.{given, or_else}
 use Rattle.words.proofs.ChoiceLaws.{cond_upto, or_else_upto, lowest_upto}
@@ -27,18 +28,18 @@ use Rattle.judge.specs.SharedBytes.{parts_named, SharesBytes, before21, after21,
 three_upto : (a b c : ℕ) (t u v : Bool) {n : ℕ} → a ≤ n → b ≤ n → c ≤ n → given a t (given b u (given c v 0)) ≤ n
 three_upto a b c t u v h l m = cond_upto t a _ h (cond_upto u b _ l (cond_upto v c 0 m (omega arith)))
 
-picture_upto : (p : Picture) → picture_status p ≤ 13
+picture_upto : (picture : Option Picture) → picture_status picture ≤ 13
 unfolding picture_status dib_status
-picture_upto p =
+picture_upto None = zero-le
+picture_upto (Some p) =
     let h = p.header in
-    cond_upto p.present (dib_status p.bmi_len h p.bits_len) 0
-    (three_upto 8 9 10 (bad_header p.bmi_len h) (bad_masks h) (ltb p.bits_len (bits_needed h)) (lit≤ tt) (lit≤ tt) (lit≤ tt)) (lit≤ tt)
+    three_upto 8 9 10 (bad_header p.bmi_len h) (bad_masks h) (ltb p.bits_len (bits_needed h)) (lit≤ tt) (lit≤ tt) (lit≤ tt)
 
 call_upto : (row : Row) (operation : ℕ) (r : Record) → call_status row operation r ≤ 13
 unfolding call_status
 call_upto row operation r =
-    three_upto 11 12 13 (bad_operation row.form operation r.action r.source.present r.source.header) (bad_geometry row.signed r)
-    (bad_mask (not (eqb row.at.mask 0)) r.mask.present r.mask.header) (lit≤ tt) (lit≤ tt) (lit≤ tt)
+    three_upto 11 12 13 (bad_operation row.form operation r.action r.source) (bad_geometry row.signed r)
+    (bad_mask (not (eqb row.at.mask 0)) r.mask) (lit≤ tt) (lit≤ tt) (lit≤ tt)
 
 later_upto : (row : Row) (operation : ℕ) (r : Record) → later_status row operation r ≤ 13
 unfolding later_status dibs_status

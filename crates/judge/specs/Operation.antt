@@ -1,9 +1,10 @@
 -- Document 01: the operation field, and refusals 11 and 13. Definitions only.
-use Rattle.std.specs.Prelude.{ℕ, ◌/◌, ◌%◌, Bool, true, false, cond, not, ◌&&◌, ◌||◌, eqb, ltb}
+use Rattle.std.specs.Prelude.{ℕ, ◌/◌, ◌%◌, Bool, true, false, cond, not, ◌&&◌, ◌||◌, eqb, ltb, Option, Some, None}
 use Rattle.pixel.specs.Raster.{needs_source}
 use Rattle.dib.specs.declared.Header.{Header}
 use Rattle.emr.specs.declared.Form.{Form}
 use Rattle.emr.specs.declared.Form.TheVariants.{Blend, Rop4, Rop}
+use Rattle.judge.specs.declared.Picture.{Picture}
 use Rattle.judge.specs.declared.Action.{Action}
 use Rattle.judge.specs.declared.Action.TheVariants.{Blend0, Blend1, Masked, Raster}
 
@@ -55,10 +56,12 @@ reads_source (Blend1 c) = true
 reads_source (Masked f b) = needs_source f || needs_source b
 reads_source (Raster op) = needs_source op
 
--- 11: a bad blend, or "source needed and absent"
-abbrev pub bad_operation : Form → (field : ℕ) → Action → (present : Bool) → Header → Bool
-bad_operation form field a present h = is_blend form && bad_blend field h || not present && reads_source a
+-- 11: "source needed and absent", as each blend's is, or a bad blend
+abbrev pub bad_operation : Form → (field : ℕ) → Action → (source : Option Picture) → Bool
+bad_operation form field a None = reads_source a
+bad_operation form field a (Some p) = is_blend form && bad_blend field p.header
 
 -- 13: "MASKBLT mask absent or not 1 bit", of a type that has a mask
-abbrev pub bad_mask : (has_mask present : Bool) → Header → Bool
-bad_mask has_mask present h = has_mask && (not present || not (eqb h.bits 1))
+abbrev pub bad_mask : (has_mask : Bool) → Option Picture → Bool
+bad_mask has_mask None = has_mask
+bad_mask has_mask (Some p) = has_mask && not (eqb p.header.bits 1)

@@ -1,5 +1,5 @@
 -- A record as one value: its headers read, its operation decoded. Definitions only.
-use Rattle.std.specs.Prelude.{ℕ, List}
+use Rattle.std.specs.Prelude.{ℕ, List, Option, Some, None}
 use Rattle.words.specs.Bytes.{part_of, le32}
 use Rattle.dib.specs.declared.Header.{Header}
 use Rattle.dib.specs.Header.{header_of}
@@ -12,13 +12,12 @@ use Rattle.judge.specs.declared.Picture.{Picture}
 use Rattle.judge.specs.declared.Record.{Record}
 use Rattle.judge.specs.Operation.{action_of}
 
--- the header of a picture's header part; of an absent one all is 0
+-- the header of a picture's header part
 abbrev pub header_in : List ℕ → PictureFields → Header
 header_in s p = header_of (part_of s p.bmi p.bmi_len)
 
 abbrev pub picture_with : PictureFields → Header → Picture
 picture_with p h = record {
-  present = p.present;
   x = p.x;
   y = p.y;
   header = h;
@@ -27,6 +26,11 @@ picture_with p h = record {
   bits = p.bits;
   bits_len = p.bits_len;
 }
+
+-- a picture that is present, with its header
+abbrev pub picture_in : List ℕ → Option PictureFields → Option Picture
+picture_in s None = None
+picture_in s (Some p) = Some (picture_with p (header_in s p))
 
 abbrev pub record_with : List ℕ → (type : ℕ) → Row → Fields → Record
 record_with s type row f = record {
@@ -39,8 +43,8 @@ record_with s type row f = record {
   cx_src = f.cx_src;
   cy_src = f.cy_src;
   action = action_of row.form f.operation;
-  source = picture_with f.source (header_in s f.source);
-  mask = picture_with f.mask (header_in s f.mask);
+  source = picture_in s f.source;
+  mask = picture_in s f.mask;
 }
 
 -- the table's row of a record's type, and its fields

@@ -21,7 +21,12 @@ fn sticks_out(x: u32, cx: u32, n: u32) -> bool
     let m = words::magnitude(cx);
     let before = (x < m) | (n < x);
     let behind = (n as u64) < x as u64 + m as u64;
-    words::is_negative(x) | words::choose(words::is_negative(cx), before, behind)
+    words::is_negative(x)
+        | if words::is_negative(cx) {
+            before
+        } else {
+            behind
+        }
 }
 
 pub fn bad_target(x: u32, y: u32, cx: u32, cy: u32) -> bool

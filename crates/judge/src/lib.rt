@@ -2,12 +2,14 @@
 #![tactic(auto)]
 
 ghost use Rattle.std.specs.Prelude.{◌≡◌};
-ghost use Rattle.judge.specs.Record.{header_in, picture_with, record_with};
-ghost use Rattle.judge.specs.Check.{picture_status, bad_geometry, call_status, later_status, status_of, settled, check_of, status_in};
+ghost use Rattle.words.specs.Refusal.{answer_of, numbered};
+ghost use Rattle.judge.specs.Record.{header_in, picture_with, picture_in, record_with};
+ghost use Rattle.judge.specs.Check.{picture_status, outside_picture, far_mask, bad_geometry, call_status, later_status, status_of, check_of, status_in};
 
 use dib::Header;
 use emr::{Fields, PictureFields, Row};
 use region::Rectangle;
+use words::refusal::{Refusal, lowest};
 
 mod geometry;
 mod operation;
@@ -21,10 +23,10 @@ pub enum Action {
     Raster(u8),
 }
 
-// A picture of a record: its corner in two's complement, its header, and where its parts stand.
+// A picture of a record: its corner in two's complement, its header, and where its parts stand: by offset and length, as a reading hands them
+// to C, and in no slice.
 #[derive(Clone, Copy)]
 pub struct Picture {
-    pub present: bool,
     pub x: u32,
     pub y: u32,
     pub header: Header,
@@ -46,24 +48,16 @@ pub struct Record {
     pub cx_src: u32,
     pub cy_src: u32,
     pub action: Action,
-    pub source: Picture,
-    pub mask: Picture,
+    pub source: Option<Picture>,
+    pub mask: Option<Picture>,
 }
 
-// The check's answer: the accepted record, or the status.
-#[derive(Clone, Copy)]
-pub enum Checked {
-    Accepted(Record),
-    Refused(u32),
-}
-
-// A picture with its header; of an absent one all is 0.
+// A picture with its header.
 fn with_header(s: &[u8], p: PictureFields) -> Picture
     ensures { result ≡ picture_with p (header_in s.now p) }
 {
     let header = dib::read(words::within(s, p.bmi as usize, p.bmi_len as usize));
     Picture {
-        present: p.present,
         x: p.x,
         y: p.y,
         header,
@@ -81,8 +75,8 @@ fn record_of(s: &[u8], kind: u32, row: Row, f: Fields) -> Record
     let form = row.form;
     let action = operation::decoded(form, f.operation);
     let bounds = f.bounds;
-    let source = with_header(s, f.source);
-    let mask = with_header(s, f.mask);
+    let source = f.source.map(|p| with_header(s, p));
+    let mask = f.mask.map(|p| with_header(s, p));
     Record {
         kind,
         bounds,
@@ -98,90 +92,92 @@ fn record_of(s: &[u8], kind: u32, row: Row, f: Fields) -> Record
     }
 }
 
-// 8, 9, 10 of a picture, or 0.
-fn picture_status(p: Picture) -> u32
-    ensures { result ≡ picture_status p }
+// 8, 9 and 10 of a picture that is present.
+#[tactic(auto, unfolding(crate::specs::Check::picture_status))]
+fn picture_status(picture: Option<Picture>) -> Result<(), Refusal>
+    ensures { answer_of result ≡ picture_status picture }
 {
-    words::either(
-        p.present,
-        dib::status(p.bmi_len as usize, p.header, p.bits_len),
-        0,
-    )
+    let Some(p) = picture else {
+        return Ok(());
+    };
+    dib::status(p.bmi_len as usize, p.header, p.bits_len)
+}
+
+// 12, of a source.
+fn outside_picture(source: Option<Picture>, cx: u32, cy: u32) -> bool
+    ensures { result ≡ outside_picture source cx cy }
+{
+    source.is_some_and(|p| {
+        let h = p.header;
+        geometry::bad_source(p.x, p.y, cx, cy, h.width, words::magnitude(h.height))
+    })
+}
+
+// 12, of a mask.
+fn far_mask(mask: Option<Picture>) -> bool
+    ensures { result ≡ far_mask mask }
+{
+    mask.is_some_and(|p| geometry::bad_corner(p.x, p.y))
 }
 
 // 12.
+#[tactic(auto, unfolding(crate::specs::Check::bad_geometry))]
 fn bad_geometry(signed: bool, r: Record) -> bool
     ensures { result ≡ bad_geometry signed r }
 {
-    let p = r.source;
-    let h = p.header;
-    let m = r.mask;
-    let rows = words::magnitude(h.height);
     geometry::bad_target(r.x, r.y, r.cx, r.cy)
-        | geometry::bad_signs(signed, p.present, r.cx, r.cy, r.cx_src, r.cy_src)
-        | p.present & geometry::bad_source(p.x, p.y, r.cx_src, r.cy_src, h.width, rows)
-        | m.present & geometry::bad_corner(m.x, m.y)
+        | geometry::bad_signs(signed, r.source.is_some(), r.cx, r.cy, r.cx_src, r.cy_src)
+        | outside_picture(r.source, r.cx_src, r.cy_src)
+        | far_mask(r.mask)
 }
 
-// 11, 12, 13, or 0.
-fn call_status(row: Row, operation: u32, r: Record) -> u32
-    ensures { result ≡ call_status row operation r }
+// 11, 12 and 13, in this order.
+#[tactic(auto, unfolding(crate::specs::Check::call_status))]
+fn call_status(row: Row, operation: u32, r: Record) -> Result<(), Refusal>
+    ensures { answer_of result ≡ call_status row operation r }
 {
-    let form = row.form;
-    let action = r.action;
-    let p = r.source;
-    let m = r.mask;
-    let call = operation::bad_operation(form, operation, action, p.present, p.header);
-    let place = bad_geometry(row.signed, r);
-    let stencil = operation::bad_mask(row.at.mask != 0, m.present, m.header);
-    words::given(
-        11,
-        call,
-        words::given(12, place, words::given(13, stencil, 0)),
-    )
-}
-
-// 8 to 13, or 0.
-#[tactic(auto, unfolding(crate::specs::Check::later_status, crate::specs::Check::dibs_status))]
-fn later_status(row: Row, operation: u32, r: Record) -> u32
-    ensures { result ≡ later_status row operation r }
-{
-    let dibs = words::lowest(picture_status(r.source), picture_status(r.mask));
-    words::or_else(dibs, call_status(row, operation, r))
-}
-
-// A record is accepted as one value, or refused with its status.
-fn settle(status: u32, r: Record) -> Checked
-    ensures { result ≡ settled status r }
-{
-    if status == 0 {
-        Checked::Accepted(r)
-    } else {
-        Checked::Refused(status)
+    if operation::bad_operation(row.form, operation, r.action, r.source) {
+        return Err(Refusal::BadOperation);
     }
+    if bad_geometry(row.signed, r) {
+        return Err(Refusal::BadGeometry);
+    }
+    if operation::bad_mask(row.at.mask != 0, r.mask) {
+        return Err(Refusal::BadMask);
+    }
+    Ok(())
+}
+
+// 8 to 13, in this order.
+#[tactic(auto, unfolding(crate::specs::Check::later_status, crate::specs::Check::dibs_status))]
+fn later_status(row: Row, operation: u32, r: Record) -> Result<(), Refusal>
+    ensures { answer_of result ≡ later_status row operation r }
+{
+    lowest(picture_status(r.source), picture_status(r.mask))?;
+    call_status(row, operation, r)
 }
 
 // The first of 3 to 6, 21 and 7 to 13 that applies, or the record as one value.
-pub fn check(s: &[u8]) -> Checked
-    ensures { result ≡ check_of s.now }
+#[tactic(auto, unfolding(crate::specs::Check::check_of, crate::specs::Check::status_of, crate::specs::Record::record_of))]
+pub fn check(s: &[u8]) -> Result<Record, Refusal>
+    ensures { numbered result ≡ check_of s.now }
 {
-    let kind = words::read_u32(s, 0);
+    let kind = words::read::<4>(s, 0);
     let row = emr::types::of(kind);
+    emr::status::frame(s, row.at)?;
     let f = emr::fixed::read(s, row.at);
+    emr::status::parts(s, row.at, f)?;
     let r = record_of(s, kind, row, f);
-    let framed = words::or_else(
-        emr::status::frame(s, row.at),
-        emr::status::parts(s, row.at, f),
-    );
-    settle(words::or_else(framed, later_status(row, f.operation, r)), r)
+    later_status(row, f.operation, r)?;
+    Ok(r)
 }
 
-// The record's status: the first of 3 to 6, 21 and 7 to 13 that applies, or 0.
+// The record's status as a number, as `status_of` gives it: the first of 3 to 6, 21 and 7 to 13 that applies, or 0.
 pub fn status(s: &[u8]) -> u32
     ensures { (result ≡ status_in (check_of s.now)) × (result ≡ status_of s.now) }
 {
     match check(s) {
-        Checked::Accepted(_) => 0,
-        Checked::Refused(k) => k,
+        Ok(_) => 0,
+        Err(refusal) => u32::from(refusal),
     }
 }

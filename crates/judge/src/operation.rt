@@ -2,7 +2,7 @@
 ghost use Rattle.std.specs.Prelude.{◌≡◌};
 ghost use Rattle.judge.specs.Operation.{is_blend, action_of, has_alpha, bad_blend, reads_source, bad_operation, bad_mask};
 
-use crate::Action;
+use crate::{Action, Picture};
 use dib::Header;
 use emr::Form;
 
@@ -27,11 +27,7 @@ pub fn decoded(form: Form, field: u32) -> Action
 fn is_blend(form: Form) -> bool
     ensures { result ≡ is_blend form }
 {
-    match form {
-        Form::Blend => true,
-        Form::Rop4 => false,
-        Form::Rop => false,
-    }
+    matches!(form, Form::Blend)
 }
 
 fn has_alpha(h: Header) -> bool
@@ -59,14 +55,17 @@ fn reads_source(a: Action) -> bool
     }
 }
 
-pub fn bad_operation(form: Form, field: u32, a: Action, present: bool, h: Header) -> bool
-    ensures { result ≡ bad_operation form field a present h }
+pub fn bad_operation(form: Form, field: u32, a: Action, source: Option<Picture>) -> bool
+    ensures { result ≡ bad_operation form field a source }
 {
-    is_blend(form) & bad_blend(field, h) | !present & reads_source(a)
+    match source {
+        Some(p) => is_blend(form) & bad_blend(field, p.header),
+        None => reads_source(a),
+    }
 }
 
-pub fn bad_mask(has_mask: bool, present: bool, h: Header) -> bool
-    ensures { result ≡ bad_mask has_mask present h }
+pub fn bad_mask(has_mask: bool, mask: Option<Picture>) -> bool
+    ensures { result ≡ bad_mask has_mask mask }
 {
-    has_mask & (!present | (h.bits != 1))
+    has_mask & mask.is_none_or(|p| p.header.bits != 1)
 }

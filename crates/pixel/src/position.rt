@@ -3,39 +3,37 @@ ghost use Rattle.std.specs.Prelude.{◌≡◌, ◌≤◌, ◌<◌};
 ghost use Rattle.pixel.specs.Position.{row_length, source_position, remainder as remainder_of, mask_pixel};
 
 // The bytes of a row. At 64 bits nothing wraps, whatever the width and depth.
+#[tactic(auto, unfolding(crate::specs::Position::row_length))]
 pub fn row_length(width: u32, bits: u32) -> u64
     ensures { result ≡ row_length width bits }
 {
-    (width as u64 * bits as u64 + 31) / 32 * 4
+    (u64::from(width) * u64::from(bits) + 31) / 32 * 4
 }
 
 // The source column (or row) that column (or row) i of a target of extent m reads, of n.
+#[tactic(auto, unfolding(crate::specs::Position::source_position))]
 pub fn source_position(mirrored: bool, i: u32, n: u32, m: u32) -> u32
     requires { (i < m) × (1 ≤ n) }
     ensures { result ≡ source_position mirrored i n m }
 {
-    let j = (i as u64 * n as u64 / m as u64) as u32;
+    let j = (u64::from(i) * u64::from(n) / u64::from(m)) as u32;
     if mirrored { n - 1 - j } else { j }
 }
 
 // The least non-negative remainder of z by w.
+#[tactic(auto, unfolding(crate::specs::Position::remainder))]
 pub fn remainder(z: i64, w: u32) -> u32
     requires { 1 ≤ w }
     ensures { result ≡ remainder_of z w }
 {
-    if z < 0 {
-        let a = (-1 - z) as u64;
-        w - 1 - (a % w as u64) as u32
-    } else {
-        let a = z as u64;
-        (a % w as u64) as u32
-    }
+    z.rem_euclid(i64::from(w)) as u32
 }
 
 // The column (or row) of the mask that column (or row) i of the target reads.
+#[tactic(auto, unfolding(crate::specs::Position::mask_pixel))]
 pub fn mask_pixel(corner: i32, i: u32, extent: u32) -> u32
     requires { 1 ≤ extent }
     ensures { result ≡ mask_pixel corner i extent }
 {
-    remainder(corner as i64 + i as i64, extent)
+    remainder(i64::from(corner) + i64::from(i), extent)
 }

@@ -10,11 +10,21 @@ use dib::{Header, Masks};
 fn rgb_masks(bits: u32, format1: bool) -> Masks
     ensures { result ≡ rgb_masks bits format1 }
 {
-    Masks {
-        red: words::either(bits == 16, 0x7C00, 0xFF0000),
-        green: words::either(bits == 16, 0x03E0, 0xFF00),
-        blue: words::either(bits == 16, 0x001F, 0xFF),
-        alpha: words::either(format1 & (bits == 32), 0xFF000000, 0),
+    let alpha = if format1 && bits == 32 { 0xFF000000 } else { 0 };
+    if bits == 16 {
+        Masks {
+            red: 0x7C00,
+            green: 0x03E0,
+            blue: 0x001F,
+            alpha,
+        }
+    } else {
+        Masks {
+            red: 0xFF0000,
+            green: 0xFF00,
+            blue: 0xFF,
+            alpha,
+        }
     }
 }
 
@@ -39,6 +49,7 @@ fn channel8(t: &[u8; 510], mask: u32, n: u32) -> u8
     pixel::widen::widen(t, w as usize, v as usize)
 }
 
+#[tactic(auto, unfolding(crate::specs::Colour::alpha_of))]
 fn alpha(t: &[u8; 510], mask: u32, n: u32) -> u8
     requires narrow { mask_width mask ≤ 8 }
     requires widens { Widens t.now }
@@ -51,6 +62,7 @@ fn alpha(t: &[u8; 510], mask: u32, n: u32) -> u8
 }
 
 // The pixel that masks make of a stored number.
+#[tactic(auto, unfolding(crate::specs::Colour::masked))]
 pub fn masked(t: &[u8; 510], m: Masks, n: u32) -> u32
     requires sampled { Sampled m }
     requires widens { Widens t.now }

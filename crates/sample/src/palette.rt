@@ -9,10 +9,6 @@ pub fn read(table: &[u8], n: usize) -> [u32; 256]
     ensures { (result ≡ palette_of table.now n) × Colours result }
 {
     let mut colours = [0u32; 256];
-    let mut k = 0;
-    while k < n {
-        colours[k] = words::load_u24(table, k * 4);
-        k += 1;
-    }
+    words::fill::by_place(&mut colours[..n], |k| words::load::<3>(table, k * 4));
     colours
 }

@@ -7,6 +7,9 @@ use lib.Dec.{ltb}
 use lib.IntN.{ℤ, pos, negsuc, neg_ℤ, sub_ℕ, nat_abs, ◌+ℤ◌}
 use lib.Signed.{lt_z}
 use borrow.Author.Tests.{leb-true, leb-false, le-ltb}
+use Rattle.std.specs.Int.{w32, cast_signed, cast_unsigned, is_negative}
+use Rattle.std.proofs.lemmas.Int.{to_z_pos, of_z-to_z}
+use Rattle.std.proofs.Math.Facts.{to_z-neg}
 use Rattle.words.specs.Bytes.{signed32, negative32, magnitude32, raised}
 use Rattle.words.specs.Signed.{TwosComplement}
 use Rattle.words.proofs.ChoiceLaws.{cond_true, cond_false}
@@ -73,12 +76,32 @@ module _ (x : ℕ) (t : negative32 x ≡ true) where
 
 -- ---- both
 
+-- the word as the machine reads it
+pub as_signed : (x : ℕ) → x < 2 ^ 32 → cast_signed w32 x ≡ signed32 x
+as_signed x h = go (negative32 x) refl
+  where
+    go : (b : Bool) → negative32 x ≡ b → cast_signed w32 x ≡ signed32 x
+    go false t = to_z_pos w32 x (plain_low x t) ∙ sym (plain_signed x t)
+    go true t =
+        ap (cast_signed w32) (omega (arith, negative_high x t)) ∙ to_z-neg w32 (4294967295 - x) (omega (arith, negative_high x t))
+        ∙ sym (negative_signed x t)
+
 pub twos_complement : (x : ℕ) → x < 2 ^ 32 → TwosComplement x
 twos_complement x h = go (negative32 x) refl
   where
     go : (b : Bool) → negative32 x ≡ b → TwosComplement x
     go false t = plain x t
     go true t = negative x t h
+
+-- the number that a cast gives, read back from its bits
+pub cast_read : (x : ℕ) (z : ℤ) → x < 2 ^ 32 → z ≡ cast_signed w32 x → cast_signed w32 (cast_unsigned w32 z) ≡ signed32 x
+cast_read x z h e = ap (λ (y : ℤ). cast_signed w32 (cast_unsigned w32 y)) e ∙ ap (cast_signed w32) (of_z-to_z w32 x h) ∙ as_signed x h
+
+pub sign_read : (x : ℕ) (z : ℤ) {t : Bool} → x < 2 ^ 32 → z ≡ signed32 x → t ≡ is_negative z → t ≡ negative32 x
+sign_read x z h e f = f ∙ ap is_negative e ∙ (twos_complement x h).sign
+
+pub size_read : (x : ℕ) (z : ℤ) {n : ℕ} → x < 2 ^ 32 → z ≡ signed32 x → n ≡ nat_abs z → n ≡ magnitude32 x
+size_read x z h e f = f ∙ ap nat_abs e ∙ (twos_complement x h).size
 
 pub size_most : (x : ℕ) → x < 2 ^ 32 → magnitude32 x ≤ 2 ^ 31
 size_most x h = go (negative32 x) refl

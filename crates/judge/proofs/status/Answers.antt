@@ -1,9 +1,12 @@
 -- The case that was met is the check's answer, and its number is the status.
-use Rattle.judge.proofs.CheckLaws.{number_of}
+use mathlib.Core.Path.{◌∙◌}
+use Rattle.judge.proofs.CheckLaws.{answered}
 use Rattle.judge.proofs.status.Goals as goal
 
-pub returns-in-Accepted : goal.returns-in-Accepted
-returns-in-Accepted c = number_of c.args.s.now _ _ c.check.ensures c.in-Accepted.is
+pub returns-in-Ok : goal.returns-in-Ok
+returns-in-Ok c = answered c.args.s.now _ _ c.check.ensures c.in-Ok.is
 
-pub returns-in-Refused : goal.returns-in-Refused
-returns-in-Refused c = number_of c.args.s.now _ _ c.check.ensures c.in-Refused.is
+pub returns-in-Err : goal.returns-in-Err
+returns-in-Err c =
+    let a = answered c.args.s.now _ _ c.check.ensures c.in-Err.is in
+    (c.from.ensures ∙ a.0, c.from.ensures ∙ a.1)

@@ -26,4 +26,4 @@ float_from_bits-result c = no_nan _ c.if-x-gt2139095040.false
 
 pub returns-then-x-gt2139095040 : goal.returns-then-x-gt2139095040
 unfolding div of_bits
-returns-then-x-gt2139095040 c = sym (nan_above _ c.if-x-gt2139095040.true) ∙ ap (of_bits binary32) c.read_u32-x.ensures
+returns-then-x-gt2139095040 c = sym (nan_above _ c.if-x-gt2139095040.true) ∙ ap (of_bits binary32) c.read-x.ensures.0
