@@ -1,13 +1,15 @@
-// A row of a play: one loop for each rule, which saves the old pixel and writes the new. The rule is chosen once a row: a choice
-// inside the loop would keep it from being vectorised.
+// A row of a play: a loop saves each old pixel and writes the new. The rule is chosen once a row, and the loop is compiled anew for
+// each: a choice inside it would keep it from being vectorised.
 #![tactic(auto)]
 
-ghost use Rattle.std.specs.Prelude.{◌≡◌, ◌+◌, ◌*◌, ◌≤◌, [], length};
+ghost use Rattle.std.specs.Prelude.{◌≡◌, cond, eqb, List, ℕ, ◌+◌, ◌*◌, ◌≤◌, ◌<◌, length};
 ghost use Rattle.journal.specs.Records.{stride};
-ghost use Rattle.composite.specs.Paints.{painted_by, Painted};
+ghost use Rattle.composite.specs.declared.Rule.{Rule};
+ghost use Rattle.composite.specs.Paints.{Paints, Painted};
 
 // What a pixel becomes: blended in alpha format 0 or 1 at a constant alpha, by a raster operation and a brush, or by one of two
-// raster operations (foreground, background) as the mask's bit says.
+// raster operations (foreground, background) as the mask's bit says. judge::Action with the brush: two enums, since `action_of` knows no
+// brush and `rule_of` adds it.
 #[derive(Clone, Copy)]
 pub enum Rule {
     Blend0(u8),
@@ -41,123 +43,58 @@ pub fn row(
         surface.old journal.old surface.new journal.new }
 {
     match rule {
-        Rule::Blend0(c) => over0(surface, width, journal, p, colours, c),
-        Rule::Blend1(c) => over1(surface, width, journal, p, colours, c),
-        Rule::Raster(op, brush) => raster(surface, width, journal, p, colours, op, brush),
-        Rule::Masked(foreground, background, brush) => masked(
-            surface, width, journal, p, colours, bits, foreground, background, brush,
+        Rule::Blend0(c) => each(surface, width, journal, p, colours, |_, source, old| {
+            pixel::blend::pixel0(source, old, c)
+        }),
+        Rule::Blend1(c) => each(surface, width, journal, p, colours, |_, source, old| {
+            pixel::blend::pixel1(source, old, c)
+        }),
+        Rule::Raster(op, brush) => each(surface, width, journal, p, colours, |_, source, old| {
+            pixel::raster::pixel(op, brush, source, old)
+        }),
+        Rule::Masked(foreground, background, brush) => each(
+            surface,
+            width,
+            journal,
+            p,
+            colours,
+            |i, source, old| {
+                let one = pixel::raster::pixel(foreground, brush, source, old);
+                let zero = pixel::raster::pixel(background, brush, source, old);
+                by_bit(bits[i], one, zero)
+            },
         ),
     }
 }
 
-fn over0(surface: &mut [u32], width: u32, journal: &mut [u8], p: Start, colours: &[u32], c: u8)
-    requires in_width { p.x + length colours.now ≤ width }
-    requires in_surface { p.y * width + width ≤ length surface.old }
-    requires in_journal { (p.at + length colours.now) * stride ≤ length journal.old }
-    ensures { Painted width p (Rule.Blend0 c) colours.now []
-        surface.old journal.old surface.new journal.new }
-{
-    let at = p.at;
-    let x = p.x;
-    let y = p.y;
-    let start = y as usize * width as usize + x as usize;
-    let mut i = 0;
-    while i < colours.len() {
-        let k = start + i;
-        let old = surface[k];
-        journal::put(journal, at + i, x + i as u32, y, old);
-        surface[k] = pixel::blend::pixel0(colours[i], old, c);
-        i += 1;
-    }
-}
-
-fn over1(surface: &mut [u32], width: u32, journal: &mut [u8], p: Start, colours: &[u32], c: u8)
-    requires in_width { p.x + length colours.now ≤ width }
-    requires in_surface { p.y * width + width ≤ length surface.old }
-    requires in_journal { (p.at + length colours.now) * stride ≤ length journal.old }
-    ensures { Painted width p (Rule.Blend1 c) colours.now []
-        surface.old journal.old surface.new journal.new }
-{
-    let at = p.at;
-    let x = p.x;
-    let y = p.y;
-    let start = y as usize * width as usize + x as usize;
-    let mut i = 0;
-    while i < colours.len() {
-        let k = start + i;
-        let old = surface[k];
-        journal::put(journal, at + i, x + i as u32, y, old);
-        surface[k] = pixel::blend::pixel1(colours[i], old, c);
-        i += 1;
-    }
-}
-
-fn raster(
+// Saves each old pixel of a row, and writes what `paint` makes of it, of its place in the row and of its source pixel.
+fn each<F: Fn(usize, u32, u32) -> u32>(
     surface: &mut [u32],
     width: u32,
     journal: &mut [u8],
     p: Start,
     colours: &[u32],
-    op: u8,
-    brush: u32,
+    paint: F,
 )
+    requires callable { (i source old : ℕ) → i < length colours.now → F.pre paint i source old }
     requires in_width { p.x + length colours.now ≤ width }
     requires in_surface { p.y * width + width ≤ length surface.old }
     requires in_journal { (p.at + length colours.now) * stride ≤ length journal.old }
-    ensures { Painted width p (Rule.Raster op brush) colours.now []
-        surface.old journal.old surface.new journal.new }
+    ensures { (rule : Rule) (bits : List ℕ) → Paints (F.post paint) rule (length colours.now) bits
+        → Painted width p rule colours.now bits surface.old journal.old surface.new journal.new }
 {
-    let at = p.at;
-    let x = p.x;
-    let y = p.y;
-    let start = y as usize * width as usize + x as usize;
-    let mut i = 0;
-    while i < colours.len() {
+    let start = p.y as usize * width as usize + p.x as usize;
+    for (i, source) in colours.iter().enumerate() {
         let k = start + i;
         let old = surface[k];
-        journal::put(journal, at + i, x + i as u32, y, old);
-        surface[k] = pixel::raster::pixel(op, brush, colours[i], old);
-        i += 1;
-    }
-}
-
-fn masked(
-    surface: &mut [u32],
-    width: u32,
-    journal: &mut [u8],
-    p: Start,
-    colours: &[u32],
-    bits: &[u8],
-    foreground: u8,
-    background: u8,
-    brush: u32,
-)
-    requires in_width { p.x + length colours.now ≤ width }
-    requires bits_enough { length colours.now ≤ length bits.now }
-    requires in_surface { p.y * width + width ≤ length surface.old }
-    requires in_journal { (p.at + length colours.now) * stride ≤ length journal.old }
-    ensures { Painted width p (Rule.Masked foreground background brush) colours.now bits.now
-        surface.old journal.old surface.new journal.new }
-{
-    let at = p.at;
-    let x = p.x;
-    let y = p.y;
-    let start = y as usize * width as usize + x as usize;
-    let mut i = 0;
-    while i < colours.len() {
-        let k = start + i;
-        let old = surface[k];
-        journal::put(journal, at + i, x + i as u32, y, old);
-        surface[k] = one_of(bits[i], foreground, background, brush, colours[i], old);
-        i += 1;
+        journal::put(journal, p.at + i, p.x + i as u32, p.y, old);
+        surface[k] = paint(i, *source, old);
     }
 }
 
 // Both outcomes are worked out and one is picked: no branch on what the mask holds.
-fn one_of(bit: u8, foreground: u8, background: u8, brush: u32, source: u32, old: u32) -> u32
-    ensures { result ≡ painted_by (Rule.Masked foreground background brush) source bit old }
+fn by_bit(bit: u8, one: u32, zero: u32) -> u32
+    ensures { result ≡ cond (eqb bit 1) one zero }
 {
-    let one = pixel::raster::pixel(foreground, brush, source, old);
-    let zero = pixel::raster::pixel(background, brush, source, old);
     if bit == 1 { one } else { zero }
 }

@@ -1,12 +1,11 @@
 -- What the rows of a clipped target are drawn from is there: the target lies on the surface, and its columns are mapped. Assumes nothing.
 use mathlib.Core.Path.{◌≡◌, sym, ap, ◌∙◌, subst}
 use mathlib.Core.List.{List, []}
-use Prim.Native.Nat.{ℕ, ◌+◌, ◌*◌, ◌≤◌}
+use Prim.Native.Nat.{ℕ, ◌+◌, ◌*◌, ◌≤◌, ◌<◌}
 use native.Mathlib.Nat.{mul-le-mul_left, mul_comm}
 use native.Mathlib.Omega.{arith}
-use lib.ListN.{length, take, replicate, length-replicate, get_or-replicate}
+use lib.ListN.{length, get_or, take, replicate, length-replicate, get_or-replicate}
 use lib.Seq.{sets, get_or-take, length-take-le}
-use Rattle.words.proofs.FillLaws.{filled_front}
 use Rattle.judge.specs.declared.Record.{Record}
 use Rattle.judge.specs.Good.{Good}
 use Rattle.region.specs.declared.Target.{Target}
@@ -16,7 +15,7 @@ use Rattle.region.proofs.TargetLaws.{OnBoth, inside, block_none}
 use Rattle.journal.specs.Drawing.{Paint, drawn}
 use Rattle.journal.specs.Records.{stride, bytes_of, saved}
 use Rattle.draw.specs.declared.Plan.{Plan}
-use Rattle.draw.specs.Ready.{Ready, SourceColumns, MaskColumns, Mapped, Buffers}
+use Rattle.draw.specs.Ready.{Ready, Buffers}
 
 -- a target without columns draws nothing
 module _ (w : ℕ) (f : Paint) (t : Target) (e : t.columns.count ≡ 0) (s : List ℕ) where
@@ -52,32 +51,20 @@ ready size h clip p s j good e wide high long room some =
       records = room;
     }
 
--- the buffers of columns, as they are filled
-module _ (p : Plan) (d₀ e₀ d e : List ℕ) (a : p.target.columns.count ≤ length d₀) (b : p.target.columns.count ≤ length e₀) where
-  abbrev index : ℕ
-  index = p.target.columns.index
-
-  abbrev count : ℕ
-  count = p.target.columns.count
-
-  pub mapped : SourceColumns p.record index count d₀ d → MaskColumns p.record index count e₀ e → Mapped p (take count d) (take count e)
-  mapped f g = record {
-    as_many = length-take-le count d (omega (arith, f.long));
-    as_many_masks = length-take-le count e (omega (arith, g.long));
-    source = λ there k l. get_or-take count d k 0 l ∙ filled_front p.record.source.present count f there k l;
-    mask = λ there k l. get_or-take count e k 0 l ∙ filled_front p.record.mask.present count g there k l;
-  }
-
--- new buffers hold nothing but 0
-pub fresh : (p : Plan) (n : ℕ) → p.target.columns.count ≤ n → Buffers p (replicate n 0) (replicate n 0) (replicate n 0) (replicate n 0)
+-- the front of new buffers holds nothing but 0
+pub fresh : (p : Plan) (n : ℕ) → p.target.columns.count ≤ n → let front : List ℕ = take p.target.columns.count (replicate n 0) in
+    Buffers p front front front front
 fresh p n room = record {
   for_columns = long;
   for_mask_columns = long;
   for_colours = long;
   for_bits = long;
-  blank_colours = λ absent k l. get_or-replicate {A = ℕ} n k 0 0 (omega arith);
-  blank_bits = λ absent k l. get_or-replicate {A = ℕ} n k 0 0 (omega arith);
+  blank_colours = λ absent. blank;
+  blank_bits = λ absent. blank;
 }
   where
-    long : p.target.columns.count ≤ length (replicate {A = ℕ} n 0)
-    long = omega (arith, length-replicate {A = ℕ} n 0)
+    long : length (take p.target.columns.count (replicate {A = ℕ} n 0)) ≡ p.target.columns.count
+    long = length-take-le p.target.columns.count (replicate {A = ℕ} n 0) (omega (arith, length-replicate {A = ℕ} n 0))
+
+    blank : (k : ℕ) → k < p.target.columns.count → get_or (take p.target.columns.count (replicate {A = ℕ} n 0)) k 0 ≡ 0
+    blank k l = get_or-take p.target.columns.count (replicate {A = ℕ} n 0) k 0 l ∙ get_or-replicate {A = ℕ} n k 0 0 (omega arith)

@@ -1,9 +1,8 @@
 -- What the rows of a play are drawn from, and what is left when they are drawn. Definitions only.
-use Rattle.std.specs.Prelude.{◌≡◌, Bool, true, false, cond, List, ℕ, ◌+◌, ◌*◌, ◌≤◌, ◌<◌, length, get_or}
+use Rattle.std.specs.Prelude.{◌≡◌, Option, Some, None, List, ℕ, ◌+◌, ◌*◌, ◌≤◌, ◌<◌, length, get_or}
 use Rattle.words.specs.Bytes.{magnitude32, signed32}
-use Rattle.words.specs.Filled.{Filled}
 use Rattle.pixel.specs.Position.{mask_pixel}
-use Rattle.judge.specs.declared.Record.{Record}
+use Rattle.judge.specs.declared.Picture.{Picture}
 use Rattle.judge.specs.Good.{Good}
 use Rattle.region.specs.Target.{points_in}
 use Rattle.journal.specs.Records.{stride, DrawnAndSaved}
@@ -28,32 +27,23 @@ pub record Ready (size : ℕ) (p : Plan) (surface journal : List ℕ) : Type 0 w
 pub record Mapped (p : Plan) (source_columns mask_columns : List ℕ) : Type 0 where
   pub as_many : length source_columns ≡ p.target.columns.count
   pub as_many_masks : length mask_columns ≡ p.target.columns.count
-  pub source : p.record.source.present ≡ true → (k : ℕ) → k < p.target.columns.count
-      → get_or source_columns k 0 ≡ source_column p.record.source.x p.record.cx_src p.record.cx (p.target.columns.index + k)
-  pub mask : p.record.mask.present ≡ true → (k : ℕ) → k < p.target.columns.count
-      → get_or mask_columns k 0 ≡ mask_pixel (signed32 p.record.mask.x) (p.target.columns.index + k) p.record.mask.header.width
-
--- a buffer of columns was filled from its front, as far as there is such a picture
-abbrev pub SourceColumns : Record → (index count : ℕ) (before after : List ℕ) → Type 0
-SourceColumns r index count before after =
-    Filled (λ k. source_column r.source.x r.cx_src r.cx (index + k)) before (cond r.source.present count 0) after
-
-abbrev pub MaskColumns : Record → (index count : ℕ) (before after : List ℕ) → Type 0
-MaskColumns r index count before after =
-    Filled (λ k. mask_pixel (signed32 r.mask.x) (index + k) r.mask.header.width) before (cond r.mask.present count 0) after
+  pub source : (q : Picture) → p.record.source ≡ Some q → (k : ℕ) → k < p.target.columns.count
+      → get_or source_columns k 0 ≡ source_column q.x p.record.cx_src p.record.cx (p.target.columns.index + k)
+  pub mask : (q : Picture) → p.record.mask ≡ Some q → (k : ℕ) → k < p.target.columns.count
+      → get_or mask_columns k 0 ≡ mask_pixel (signed32 q.x) (p.target.columns.index + k) q.header.width
 
 -- a buffer holds 0 as far as the row goes, where there is no such picture
-abbrev pub Blank : (present : Bool) (count : ℕ) (buffer : List ℕ) → Type 0
-Blank present count buffer = present ≡ false → (k : ℕ) → k < count → get_or buffer k 0 ≡ 0
+abbrev pub Blank : Option Picture → (count : ℕ) (buffer : List ℕ) → Type 0
+Blank picture count buffer = picture ≡ None → (k : ℕ) → k < count → get_or buffer k 0 ≡ 0
 
--- buffers for the columns of source and mask and for the pixels and bits of a row, each as long as the row at least
+-- buffers for the columns of source and mask and for the pixels and bits of a row, each as long as the row
 pub record Buffers (p : Plan) (source_columns mask_columns colours bits : List ℕ) : Type 0 where
-  pub for_columns : p.target.columns.count ≤ length source_columns
-  pub for_mask_columns : p.target.columns.count ≤ length mask_columns
-  pub for_colours : p.target.columns.count ≤ length colours
-  pub for_bits : p.target.columns.count ≤ length bits
-  pub blank_colours : Blank p.record.source.present p.target.columns.count colours
-  pub blank_bits : Blank p.record.mask.present p.target.columns.count bits
+  pub for_columns : length source_columns ≡ p.target.columns.count
+  pub for_mask_columns : length mask_columns ≡ p.target.columns.count
+  pub for_colours : length colours ≡ p.target.columns.count
+  pub for_bits : length bits ≡ p.target.columns.count
+  pub blank_colours : Blank p.record.source p.target.columns.count colours
+  pub blank_bits : Blank p.record.mask p.target.columns.count bits
 
 -- the target's pixels are drawn on the surface as record s means them, and their old ones stand in the journal from the plan's record on
 abbrev pub Drawn : (s : List ℕ) → Plan → (surface journal surface_after journal_after : List ℕ) → Type 0

@@ -1,5 +1,5 @@
 -- A row of source pixels: of each target column the pixel at its source column. Definitions only.
-use Rattle.std.specs.Prelude.{◌≡◌, Bool, true, ◌&&◌, List, ℕ, ◌+◌, ◌*◌, ◌≤◌, ◌<◌, eqb, length, get_or}
+use Rattle.std.specs.Prelude.{◌≡◌, true, List, ℕ, ◌+◌, ◌*◌, ◌≤◌, ◌<◌, length, get_or}
 use Rattle.words.specs.Filled.{Filled}
 use Rattle.pixel.specs.Position.{is_depth}
 use Rattle.dib.specs.declared.Masks.{Masks}
@@ -34,10 +34,3 @@ pub record Readable (bits : ℕ) (m : Masks) : Type 0 where
   pub depth : is_depth bits ≡ true
   pub sampled : 8 < bits → Sampled m
   pub bytes : bits ≡ 24 → m ≡ byte_masks 0
-
--- up to 8 bits no mask is looked at, and above no palette
-abbrev pub no_masks : Masks
-no_masks = record { red = 0; green = 0; blue = 0; alpha = 0 }
-
-abbrev pub same_masks : (m k : Masks) → Bool
-same_masks m k = eqb m.red k.red && eqb m.green k.green && eqb m.blue k.blue && eqb m.alpha k.alpha

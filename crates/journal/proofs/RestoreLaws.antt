@@ -28,19 +28,19 @@ module _ (w h : ℕ) (j : List ℕ) (from n : ℕ) where
       let e : from + n - from ≡ n = omega arith in
       record { below = omega arith; same = ap (λ (k : ℕ). any_off w h (entries_at j from k)) e }
 
-  module _ (i x y : ℕ) (r : Tested w h j from n i) (l : i < from + n) (e : x ≡ (entry_at j i).first) (f : y ≡ (entry_at j i).second) where
-    record_decides : any_off w h (entries_at j from n) ≡ (leb w x || leb h y || any_off w h (entries_at j (i + 1) (from + n - (i + 1))))
+  module _ (i : ℕ) (p : Entry) (r : Tested w h j from n i) (l : i < from + n) (e : p ≡ entry_at j i) where
+    record_decides : any_off w h (entries_at j from n) ≡ (leb w p.first || leb h p.second || any_off w h (entries_at j (i + 1) (from + n - (i + 1))))
     unfolding any_off entries_at
     record_decides =
         let k : from + n - i ≡ suc (from + n - (i + 1)) = omega arith in
         let m : suc i ≡ i + 1 = omega arith in
         sym r.same ∙ ap (λ (k : ℕ). any_off w h (entries_at j i k)) k
-        ∙ (λ t. leb w (sym e t) || leb h (sym f t) || any_off w h (entries_at j (m t) (from + n - (i + 1))))
+        ∙ (λ t. any_off w h (sym e t ∷ entries_at j (m t) (from + n - (i + 1))))
 
-    pub tested_off : (leb w x || leb h y) ≡ true → true ≡ any_off w h (entries_at j from n)
+    pub tested_off : (leb w p.first || leb h p.second) ≡ true → true ≡ any_off w h (entries_at j from n)
     tested_off a = sym (record_decides ∙ or_by_first _ _ a)
 
-    pub tested_one : (leb w x || leb h y) ≡ false → Tested w h j from n (i + 1)
+    pub tested_one : (leb w p.first || leb h p.second) ≡ false → Tested w h j from n (i + 1)
     tested_one a = record { below = omega arith; same = sym (record_decides ∙ or_by_second _ _ a refl) }
 
   pub tested_all : (i : ℕ) → Tested w h j from n i → from + n ≤ i → false ≡ any_off w h (entries_at j from n)
@@ -97,27 +97,26 @@ module _ (w : ℕ) (j : List ℕ) (from n : ℕ) (s₀ : List ℕ) where
       record { within = omega arith; same = ap (λ (k : ℕ). restored w (entries_at j from k) s₀) e; pixels = refl }
 
   module _ (s : List ℕ) (i : ℕ) (r : Restoring w j from n s₀ s i) where
-    module _ (x y : ℕ) (l : from < i) (ex : x ≡ (entry_at j (i - 1)).first) (ey : y ≡ (entry_at j (i - 1)).second) where
+    module _ (p : Entry) (l : from < i) (e : p ≡ entry_at j (i - 1)) where
       -- the pixel that a turn restores is on the surface
-      pub restoring_on : (h : ℕ) → length s₀ ≡ w * h → any_off w h (entries_at j from n) ≡ false → y * w + x < length s
+      pub restoring_on : (h : ℕ) → length s₀ ≡ w * h → any_off w h (entries_at j from n) ≡ false → pixel_index w p.first p.second < length s
       restoring_on h a o =
           let m : from + (i - 1 - from) ≡ i - 1 = omega arith in
-          let p = rw m at (each_on w h j from n (i - 1 - from) o (omega arith)) in
-          let q : y * w + x < h * w = digits_lt (rw ey p.1) (rw ex p.0) in
+          let on = rw m at (each_on w h j from n (i - 1 - from) o (omega arith)) in
+          let q : pixel_index w p.first p.second < h * w = rw e (digits_lt on.1 on.0) in
           omega (arith, mul_comm w h)
 
-      pub restoring_one : (v : ℕ) → v ≡ (entry_at j (i - 1)).third → Restoring w j from n s₀ (set s (y * w + x) v) (i - 1)
-      restoring_one v ev =
-          let e : i - from ≡ suc (i - 1 - from) = omega arith in
+      pub restoring_one : Restoring w j from n s₀ (set s (pixel_index w p.first p.second) p.third) (i - 1)
+      restoring_one =
+          let k : i - from ≡ suc (i - 1 - from) = omega arith in
           let m : from + (i - 1 - from) ≡ i - 1 = omega arith in
           let rest : List Entry = entries_at j from (i - 1 - from) in
-          let parts : entries_at j from (i - from) ≡ rest ++ (entry_at j (i - 1) ∷ []) =
-          ap (entries_at j from) e ∙ entries_last j from (i - 1 - from) ∙ ap (λ (k : ℕ). rest ++ (entry_at j k ∷ [])) m in
+          let parts : entries_at j from (i - from) ≡ rest ++ (p ∷ []) =
+          ap (entries_at j from) k ∙ entries_last j from (i - 1 - from) ∙ (λ t. rest ++ ((ap (entry_at j) m ∙ sym e) t ∷ [])) in
           record {
             within = omega arith;
-            same = (λ t. restored w rest (set s (ey t * w + ex t) (ev t))) ∙ sym (restored_last w rest (entry_at j (i - 1)) s)
-                ∙ ap (λ (es : List Entry). restored w es s) (sym parts) ∙ r.same;
-            pixels = length-set s (y * w + x) v ∙ r.pixels;
+            same = sym (restored_last w rest p s) ∙ ap (λ (es : List Entry). restored w es s) (sym parts) ∙ r.same;
+            pixels = length-set s (pixel_index w p.first p.second) p.third ∙ r.pixels;
           }
 
     pub restoring_all : i ≤ from → s ≡ restored w (entries_at j from n) s₀

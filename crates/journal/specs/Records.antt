@@ -4,15 +4,14 @@ use Rattle.std.proofs.lemmas.List.Edits.{sets}
 use Rattle.words.specs.Bytes.{le32, bytes32}
 use Rattle.region.specs.Target.{Point}
 use Rattle.journal.specs.Drawing.{pixel_index, Paint, dot, drawn}
+use Rattle.journal.specs.declared.Entry.{Entry as Declared}
 
 -- "Records of 12 bytes, no header: three 32-bit numbers."
 abbrev pub stride : ℕ
 stride = 12
 
-pub record Entry : Type 0 where
-  pub first : ℕ
-  pub second : ℕ
-  pub third : ℕ
+abbrev pub Entry : Type 0
+Entry = Declared
 
 abbrev pub entry : (first second third : ℕ) → Entry
 entry first second third = record { first = first; second = second; third = third }

@@ -23,26 +23,25 @@ pub fn put(journal: &mut [u8], i: usize, first: u32, second: u32, third: u32)
     words::store_u32(journal, at + 8, third);
 }
 
-// Record i's three numbers.
-pub fn first(journal: &[u8], i: usize) -> u32
-    requires { (i + 1) * stride ≤ length journal.now }
-    ensures { result ≡ (entry_at journal.now i).first }
-{
-    words::load_u32(journal, i * STRIDE)
+// A record: three numbers.
+#[derive(Clone, Copy)]
+pub struct Entry {
+    pub first: u32,
+    pub second: u32,
+    pub third: u32,
 }
 
-pub fn second(journal: &[u8], i: usize) -> u32
+// Record i.
+pub fn load(journal: &[u8], i: usize) -> Entry
     requires { (i + 1) * stride ≤ length journal.now }
-    ensures { result ≡ (entry_at journal.now i).second }
+    ensures { result ≡ entry_at journal.now i }
 {
-    words::load_u32(journal, i * STRIDE + 4)
-}
-
-pub fn third(journal: &[u8], i: usize) -> u32
-    requires { (i + 1) * stride ≤ length journal.now }
-    ensures { result ≡ (entry_at journal.now i).third }
-{
-    words::load_u32(journal, i * STRIDE + 8)
+    let at = i * STRIDE;
+    Entry {
+        first: words::load::<4>(journal, at),
+        second: words::load::<4>(journal, at + 4),
+        third: words::load::<4>(journal, at + 8),
+    }
 }
 
 // Does one of n records from `from` on lie off the surface?
@@ -50,13 +49,11 @@ pub fn any_off(journal: &[u8], from: usize, n: usize, width: u32, height: u32) -
     requires { (from + n) * stride ≤ length journal.now }
     ensures { result ≡ any_off width height (entries_at journal.now from n) }
 {
-    let end = from + n;
-    let mut i = from;
-    while i < end {
-        if (width <= first(journal, i)) | (height <= second(journal, i)) {
+    for i in from..from + n {
+        let pixel = load(journal, i);
+        if (width <= pixel.first) | (height <= pixel.second) {
             return true;
         }
-        i += 1;
     }
     false
 }
@@ -68,11 +65,8 @@ pub fn restore(surface: &mut [u32], width: u32, height: u32, journal: &[u8], fro
     requires on_surface { any_off width height (entries_at journal.now from n) ≡ false }
     ensures { surface.new ≡ restored width (entries_at journal.now from n) surface.old }
 {
-    let mut i = from + n;
-    while from < i {
-        i -= 1;
-        let x = first(journal, i) as usize;
-        let y = second(journal, i) as usize;
-        surface[y * width as usize + x] = third(journal, i);
+    for i in (from..from + n).rev() {
+        let pixel = load(journal, i);
+        surface[pixel.second as usize * width as usize + pixel.first as usize] = pixel.third;
     }
 }

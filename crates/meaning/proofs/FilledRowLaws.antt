@@ -10,7 +10,7 @@ use lib.ListN.{length, get_or}
 use Rattle.words.specs.Bytes.{signed32}
 use Rattle.words.specs.Filled.{Filled}
 use Rattle.words.proofs.FillLaws.{filled_by}
-use Rattle.words.proofs.ChoiceLaws.{cond_true}
+use Rattle.std.specs.Prelude.{Some}
 use Rattle.pixel.specs.Position.{row_length, remainder, mask_pixel}
 use Rattle.pixel.proofs.PositionLaws.{remainder_lt}
 use Rattle.dib.specs.declared.Header.{Header}
@@ -25,25 +25,22 @@ use Rattle.sample.proofs.AtLaws.{column_in}
 use Rattle.judge.specs.declared.Picture.{Picture}
 use Rattle.judge.specs.declared.Record.{Record}
 use Rattle.judge.specs.Record.{bits_part}
-use Rattle.judge.specs.Good.{Fit, Good}
+use Rattle.judge.specs.Good.{Fit}
 use Rattle.picture.specs.Shown.{picture_palette, picture_row}
 use Rattle.picture.proofs.PictureRowLaws.{length_bits}
 use Rattle.fetch.specs.Fetched.{fetched, InLine, Readable}
 use Rattle.fetch.proofs.ReadableLaws.{readable}
 use Rattle.meaning.specs.Sampling.{is_format1, source_column, source_shown, mask_shown}
-use Rattle.meaning.specs.Rows.{InPicture}
+use Rattle.meaning.specs.Rows.{InPicture, SourceFilled, MaskFilled}
 
--- ---- what a present picture is known for
+-- ---- what a picture that fits its record is known for
 
-pub fields_ok : {len : ℕ} (p : Picture) → Fit len p → p.present ≡ true → bad_fields p.header ≡ false
-fields_ok p f t = passed_fields _ p.header (f.sound t).header_ok
+pub fields_ok : {len : ℕ} (p : Picture) → Fit len p → bad_fields p.header ≡ false
+fields_ok p f = passed_fields _ p.header f.sound.header_ok
 
 -- its pixels can be read with the masks in force
-pub as_readable : {len : ℕ} (r : Record) (m : Masks) → Good len r → r.source.present ≡ true → m ≡ masks_in r.source.header (is_format1 r.action)
-    → Readable r.source.header.bits m
-as_readable r m g there e =
-    let fields = fields_ok r.source g.source there in
-    rw e (readable r.source.header (is_format1 r.action) fields (g.source.sound there).masks_ok)
+pub as_readable : {len : ℕ} (p : Picture) (m : Masks) (format1 : Bool) → Fit len p → m ≡ masks_in p.header format1 → Readable p.header.bits m
+as_readable p m format1 f e = rw e (readable p.header format1 (fields_ok p f) f.sound.masks_ok)
 
 stored_lt : (t : Bool) (n row : ℕ) → row < n → stored_row t n row < n
 unfolding stored_row
@@ -51,41 +48,39 @@ stored_lt true n row h = h
 stored_lt false n row h = omega arith
 
 -- a row's bytes reach to the end of each column's pixel
-pub line_reaches : (s : List ℕ) (p : Picture) (row : ℕ) (line columns : List ℕ) → Fit (length s) p → p.present ≡ true → row < rows p.header
+pub line_reaches : (s : List ℕ) (p : Picture) (row : ℕ) (line columns : List ℕ) → Fit (length s) p → row < rows p.header
     → line ≡ picture_row s p row → InPicture p.header.width columns → InLine p.header.bits line columns
-line_reaches s p row line columns f t r e i k l =
+line_reaches s p row line columns f r e i k l =
     let h : Header = p.header in
     column_in h (bits_part s p) (row_length h.width h.bits) (rows h) (stored_row (top_down h) (rows h) row) refl refl
-    (stored_lt (top_down p.header) (rows p.header) row r) (omega (arith, (f.sound t).rows_ok, length_bits s p f)) line (get_or columns k 0) e (i k l)
+    (stored_lt (top_down p.header) (rows p.header) row r) (omega (arith, f.sound.rows_ok, length_bits s p f)) line (get_or columns k 0) e (i k l)
 
-module _ (s : List ℕ) (r : Record) where
-  module _ (m : Masks) (palette line columns : List ℕ) (j row : ℕ) (em : m ≡ masks_in r.source.header (is_format1 r.action))
-      (ep : palette ≡ picture_palette s r.source) (f : r.source.present ≡ true)
-      (er : row ≡ source_column r.source.y r.cy_src r.cy j) (el : line ≡ picture_row s r.source row) where
-    shown_is : (k : ℕ) → fetched r.source.header.bits palette m line columns k
-        ≡ source_shown s r (get_or columns k 0) (source_column r.source.y r.cy_src r.cy j)
+module _ (s : List ℕ) (r : Record) (p : Picture) (line columns : List ℕ) (j row : ℕ) (el : line ≡ picture_row s p row) where
+  module _ (m : Masks) (palette : List ℕ) (there : r.source ≡ Some p) (em : m ≡ masks_in p.header (is_format1 r.action))
+      (ep : palette ≡ picture_palette s r.source) (er : row ≡ source_column p.y r.cy_src r.cy j) where
+    shown_is : (k : ℕ) → fetched p.header.bits palette m line columns k
+        ≡ source_shown s r.action p (get_or columns k 0) (source_column p.y r.cy_src r.cy j)
     unfolding fetched source_shown pixel_at
     shown_is k =
         let c : ℕ = get_or columns k 0 in
-        (λ t. shown r.source.header.bits (ep t) (em t) (stored r.source.header.bits (el t) c))
-        ∙ ap (pixel_at (bits_part s r.source) r.source.header (picture_palette s r.source) (is_format1 r.action) c) er
-        ∙ sym (cond_true _ _ 0 f)
+        let shows : palette ≡ picture_palette s (Some p) = ep ∙ ap (picture_palette s) there in
+        (λ t. shown p.header.bits (shows t) (em t) (stored p.header.bits (el t) c))
+        ∙ ap (pixel_at (bits_part s p) p.header (picture_palette s (Some p)) (is_format1 r.action) c) er
 
-    pub source_filled : (d₀ d : List ℕ) → Filled (fetched r.source.header.bits palette m line columns) d₀ (length columns) d
-        → Filled (λ k. source_shown s r (get_or columns k 0) (source_column r.source.y r.cy_src r.cy j)) d₀ (length columns) d
-    source_filled d₀ d p = filled_by _ _ (length columns) d₀ d (λ k l. shown_is k) p
+    pub source_filled : (before after : List ℕ) → Filled (fetched p.header.bits palette m line columns) before (length columns) after
+        → SourceFilled s r j columns before after
+    source_filled before after f = rw there (filled_by _ _ (length columns) before after (λ k l. shown_is k) f)
 
-  module _ (line columns : List ℕ) (j m row : ℕ) (f : r.mask.present ≡ true) (em : m ≡ rows r.mask.header)
-      (er : row ≡ mask_pixel (signed32 r.mask.y) j m) (el : line ≡ picture_row s r.mask row) where
-    bit_is : (k : ℕ) → stored1 line (get_or columns k 0) ≡ mask_shown s r (get_or columns k 0) (mask_pixel (signed32 r.mask.y) j (rows r.mask.header))
+  module _ (n : ℕ) (there : r.mask ≡ Some p) (en : n ≡ rows p.header) (er : row ≡ mask_pixel (signed32 p.y) j n) where
+    bit_is : (k : ℕ) → stored1 line (get_or columns k 0) ≡ mask_shown s p (get_or columns k 0) (mask_pixel (signed32 p.y) j (rows p.header))
     unfolding mask_shown
     bit_is k =
         let c : ℕ = get_or columns k 0 in
-        ap (λ (l : List ℕ). stored1 l c) (el ∙ ap (picture_row s r.mask) (er ∙ ap (mask_pixel (signed32 r.mask.y) j) em)) ∙ sym (cond_true _ _ 0 f)
+        ap (λ (l : List ℕ). stored1 l c) (el ∙ ap (picture_row s p) (er ∙ ap (mask_pixel (signed32 p.y) j) en))
 
-    pub mask_filled : (d₀ d : List ℕ) → Filled (λ k. stored1 line (get_or columns k 0)) d₀ (length columns) d
-        → Filled (λ k. mask_shown s r (get_or columns k 0) (mask_pixel (signed32 r.mask.y) j (rows r.mask.header))) d₀ (length columns) d
-    mask_filled d₀ d p = filled_by _ _ (length columns) d₀ d (λ k l. bit_is k) p
+    pub mask_filled : (before after : List ℕ) → Filled (λ k. stored1 line (get_or columns k 0)) before (length columns) after
+        → MaskFilled s r j columns before after
+    mask_filled before after f = rw there (filled_by _ _ (length columns) before after (λ k l. bit_is k) f)
 
 -- each column's bit lies in the row's bytes
 pub bits_reach : (h : Header) (line columns : List ℕ) → bad_fields h ≡ false → InLine h.bits line columns → (k : ℕ) → k < length columns

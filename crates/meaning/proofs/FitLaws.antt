@@ -5,10 +5,13 @@ use Prim.Native.Nat.{ℕ, ◌+◌, ◌-◌, ◌^◌, ◌≤◌, ◌<◌}
 use native.Mathlib.Omega.{arith}
 use lib.Dec.{ltb}
 use borrow.Author.Tests.{ltb-false}
+use Rattle.std.specs.Prelude.{Some}
+use Rattle.std.specs.Option.{ForSome}
 use Rattle.words.specs.Bytes.{negative32, magnitude32}
 use Rattle.words.proofs.SignedLaws.{plain_low}
 use Rattle.words.proofs.ChoiceLaws.{or_none}
 use Rattle.dib.specs.Header.{rows}
+use Rattle.judge.specs.declared.Picture.{Picture}
 use Rattle.judge.specs.declared.Record.{Record}
 use Rattle.judge.specs.Geometry.{bad_side, far, sticks_out}
 use Rattle.judge.specs.Good.{Good}
@@ -32,28 +35,28 @@ pub record Extents (r : Record) : Type 0 where
   pub columns : (1 ≤ magnitude32 r.cx) × (magnitude32 r.cx ≤ 4096)
   pub lines : (1 ≤ magnitude32 r.cy) × (magnitude32 r.cy ≤ 4096)
 
-pub record SourceIn (r : Record) : Type 0 where
+pub record SourceIn (r : Record) (p : Picture) : Type 0 where
   pub cx : (1 ≤ magnitude32 r.cx_src) × (magnitude32 r.cx_src ≤ 16384)
   pub cy : (1 ≤ magnitude32 r.cy_src) × (magnitude32 r.cy_src ≤ 16384)
-  pub columns : (r.source.x < 2 ^ 31) × (source_start r.source.x r.cx_src + magnitude32 r.cx_src ≤ r.source.header.width)
-  pub lines : (r.source.y < 2 ^ 31) × (source_start r.source.y r.cy_src + magnitude32 r.cy_src ≤ rows r.source.header)
+  pub columns : (p.x < 2 ^ 31) × (source_start p.x r.cx_src + magnitude32 r.cx_src ≤ p.header.width)
+  pub lines : (p.y < 2 ^ 31) × (source_start p.y r.cy_src + magnitude32 r.cy_src ≤ rows p.header)
 
 pub extents : {len : ℕ} (r : Record) → Good len r → Extents r
 extents r g =
     let a = or_none (bad_side 4096 r.cx) (bad_side 4096 r.cy) (or_none _ (far r.x) (or_none _ (far r.y) g.target).0).0 in
     record { columns = side 4096 r.cx a.0; lines = side 4096 r.cy a.1 }
 
-pub source_fits : {len : ℕ} (r : Record) → Good len r → r.source.present ≡ true → SourceIn r
-source_fits r g q =
-    let a = or_none _ (sticks_out r.source.y r.cy_src (rows r.source.header)) (g.inside q) in
-    let b = or_none _ (sticks_out r.source.x r.cx_src r.source.header.width) a.0 in
-    let c = or_none _ (far r.source.x) (or_none _ (far r.source.y) b.0).0 in
+pub source_fits : {len : ℕ} (r : Record) → Good len r → ForSome r.source (SourceIn r)
+source_fits r g p q =
+    let a = or_none _ (sticks_out p.y r.cy_src (rows p.header)) (g.inside p q) in
+    let b = or_none _ (sticks_out p.x r.cx_src p.header.width) a.0 in
+    let c = or_none _ (far p.x) (or_none _ (far p.y) b.0).0 in
     let d = or_none (bad_side 16384 r.cx_src) (bad_side 16384 r.cy_src) c.0 in
     record {
       cx = side 16384 r.cx_src d.0;
       cy = side 16384 r.cy_src d.1;
-      columns = inside r.source.x r.cx_src r.source.header.width b.1;
-      lines = inside r.source.y r.cy_src (rows r.source.header) a.1;
+      columns = inside p.x r.cx_src p.header.width b.1;
+      lines = inside p.y r.cy_src (rows p.header) a.1;
     }
 
 -- a column (or row) that is read lies in the picture
@@ -63,9 +66,9 @@ unfolding source_column
 column_inside x cx_src cx i n h l p = omega (arith, position_lt (mirrored cx cx_src) i (magnitude32 cx_src) (magnitude32 cx) h l)
 
 -- so does the row that a row of the target reads
-pub row_inside : {len : ℕ} (r : Record) → Good len r → r.source.present ≡ true → (j row : ℕ) → j < magnitude32 r.cy
-    → row ≡ source_column r.source.y r.cy_src r.cy j → row < rows r.source.header
-row_inside r g there j row h e =
-    let fits = source_fits r g there in
-    let l = column_inside r.source.y r.cy_src r.cy j (rows r.source.header) h fits.cy.0 fits.lines.1 in
+pub row_inside : {len : ℕ} (r : Record) → Good len r → (p : Picture) → r.source ≡ Some p → (j row : ℕ) → j < magnitude32 r.cy
+    → row ≡ source_column p.y r.cy_src r.cy j → row < rows p.header
+row_inside r g p there j row h e =
+    let fits = source_fits r g p there in
+    let l = column_inside p.y r.cy_src r.cy j (rows p.header) h fits.cy.0 fits.lines.1 in
     omega (arith, l, e)

@@ -1,6 +1,6 @@
 -- Document 01, "Which pixels, from where": the source pixel and the mask's bit that column i and row j of the target read, both counted
 -- from the whole target's left and top. Definitions only.
-use Rattle.std.specs.Prelude.{ℕ, ◌+◌, ◌-◌, Bool, true, false, cond, not, List}
+use Rattle.std.specs.Prelude.{ℕ, ◌+◌, ◌-◌, Bool, true, false, cond, not, List, Option, Some, None}
 use Rattle.words.specs.Bytes.{negative32, magnitude32, signed32}
 use Rattle.pixel.specs.Position.{source_position, mask_pixel}
 use Rattle.dib.specs.Header.{rows}
@@ -8,6 +8,7 @@ use Rattle.sample.specs.Stored.{stored1}
 use Rattle.sample.specs.At.{pixel_at}
 use Rattle.judge.specs.declared.Action.{Action}
 use Rattle.judge.specs.declared.Action.TheVariants.{Blend0, Blend1, Masked, Raster}
+use Rattle.judge.specs.declared.Picture.{Picture}
 use Rattle.judge.specs.declared.Record.{Record}
 use Rattle.judge.specs.Record.{bits_part}
 use Rattle.picture.specs.Shown.{picture_palette, picture_row}
@@ -31,20 +32,27 @@ is_format1 (Blend1 a) = true
 is_format1 (Masked f b) = false
 is_format1 (Raster o) = false
 
--- the pixel at a column and a row of a record's source; 0 where the source is absent
-unfoldable pub source_shown : List ℕ → Record → (column row : ℕ) → ℕ
-source_shown s r column row =
-    cond r.source.present
-    (pixel_at (bits_part s r.source) r.source.header (picture_palette s r.source) (is_format1 r.action) column row) 0
+-- the pixel at a column and a row of a record's source
+unfoldable pub source_shown : List ℕ → Action → (source : Picture) → (column row : ℕ) → ℕ
+source_shown s a p column row = pixel_at (bits_part s p) p.header (picture_palette s (Some p)) (is_format1 a) column row
+
+-- 0 where the source is absent
+abbrev pub source_read : List ℕ → Record → (source : Option Picture) → (i j : ℕ) → ℕ
+source_read s r None i j = 0
+source_read s r (Some p) i j =
+    source_shown s r.action p (source_column p.x r.cx_src r.cx i) (source_column p.y r.cy_src r.cy j)
 
 unfoldable pub source_pixel : List ℕ → Record → (i j : ℕ) → ℕ
-source_pixel s r i j =
-    source_shown s r (source_column r.source.x r.cx_src r.cx i) (source_column r.source.y r.cy_src r.cy j)
+source_pixel s r i j = source_read s r r.source i j
 
--- the bit at a column and a row of a record's mask; "its bit is used, not its colour". 0 where the mask is absent
-unfoldable pub mask_shown : List ℕ → Record → (column row : ℕ) → ℕ
-mask_shown s r column row = cond r.mask.present (stored1 (picture_row s r.mask row) column) 0
+-- the bit at a column and a row of a record's mask; "its bit is used, not its colour"
+unfoldable pub mask_shown : List ℕ → (mask : Picture) → (column row : ℕ) → ℕ
+mask_shown s p column row = stored1 (picture_row s p row) column
+
+-- 0 where the mask is absent
+abbrev pub mask_read : List ℕ → (mask : Option Picture) → (i j : ℕ) → ℕ
+mask_read s None i j = 0
+mask_read s (Some p) i j = mask_shown s p (mask_pixel (signed32 p.x) i p.header.width) (mask_pixel (signed32 p.y) j (rows p.header))
 
 unfoldable pub mask_bit : List ℕ → Record → (i j : ℕ) → ℕ
-mask_bit s r i j =
-    mask_shown s r (mask_pixel (signed32 r.mask.x) i r.mask.header.width) (mask_pixel (signed32 r.mask.y) j (rows r.mask.header))
+mask_bit s r i j = mask_read s r.mask i j

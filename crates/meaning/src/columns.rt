@@ -5,18 +5,24 @@ ghost use Rattle.words.specs.Filled.{Filled};
 ghost use Rattle.pixel.specs.Position.{mask_pixel};
 ghost use Rattle.meaning.specs.Sampling.{source_start, mirrored, source_column};
 
+use words::fill::by_place;
+
+#[tactic(auto, unfolding(crate::specs::Sampling::source_start))]
 fn source_start(x: u32, source: u32) -> u32
     ensures { (result ≡ source_start x source) × (result ≤ x) }
 {
-    let m = words::magnitude(source);
-    words::either(words::is_negative(source), words::saturating_sub(x, m), x)
+    if words::is_negative(source) {
+        x.saturating_sub(words::magnitude(source))
+    } else {
+        x
+    }
 }
 
+#[tactic(auto, unfolding(crate::specs::Sampling::mirrored))]
 fn is_mirrored(target: u32, source: u32) -> bool
     ensures { result ≡ mirrored target source }
 {
-    let back = words::is_negative(source);
-    words::choose(words::is_negative(target), !back, back)
+    words::is_negative(target) != words::is_negative(source)
 }
 
 // The column (or row) of the source that column (or row) i of the target reads.
@@ -33,16 +39,12 @@ pub fn source_column(x: u32, source: u32, target: u32, i: u32) -> u32
 }
 
 // The columns of the source that the target's columns from `index` on read.
-pub fn of_source(x: u32, source: u32, target: u32, index: u32, out: &mut [u32], count: usize)
-    requires in_target { (index + count ≤ magnitude32 target) × (count ≤ length out.old) }
+pub fn of_source(x: u32, source: u32, target: u32, index: u32, out: &mut [u32])
+    requires in_target { index + length out.old ≤ magnitude32 target }
     requires in_limits { (1 ≤ magnitude32 source) × (x < 2 ^ 31) × (magnitude32 source ≤ 16384) × (magnitude32 target ≤ 4096) }
-    ensures { Filled (λ k. source_column x source target (index + k)) out.old count out.new }
+    ensures { Filled (λ k. source_column x source target (index + k)) out.old (length out.old) out.new }
 {
-    let mut k = 0;
-    while k < count {
-        out[k] = source_column(x, source, target, index + k as u32);
-        k += 1;
-    }
+    by_place(out, |k| source_column(x, source, target, index + k as u32));
 }
 
 // The column (or row) of the mask that column (or row) i of the target reads.
@@ -54,13 +56,9 @@ pub fn mask_column(corner: u32, i: u32, extent: u32) -> u32
 }
 
 // The columns of the mask that the target's columns from `index` on read.
-pub fn of_mask(corner: u32, width: u32, index: u32, out: &mut [u32], count: usize)
-    requires { (index + count < 2 ^ 32) × (count ≤ length out.old) × (1 ≤ width) }
-    ensures { Filled (λ k. mask_pixel (signed32 corner) (index + k) width) out.old count out.new }
+pub fn of_mask(corner: u32, width: u32, index: u32, out: &mut [u32])
+    requires { (index + length out.old < 2 ^ 32) × (1 ≤ width) }
+    ensures { Filled (λ k. mask_pixel (signed32 corner) (index + k) width) out.old (length out.old) out.new }
 {
-    let mut k = 0;
-    while k < count {
-        out[k] = mask_column(corner, index + k as u32, width);
-        k += 1;
-    }
+    by_place(out, |k| mask_column(corner, index + k as u32, width));
 }

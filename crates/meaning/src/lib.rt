@@ -25,14 +25,13 @@ pub fn read_terms(s: &[u8], at: usize) -> Terms
     requires { at < 2 ^ 63 }
     ensures { result ≡ terms_at s.now at }
 {
-    let clip = region::read(s, at);
     Terms {
-        clip: clip,
-        brush: words::read_u32(s, at + 16),
+        clip: region::read(s, at),
+        brush: words::read::<4>(s, at + 16),
     }
 }
 
-// What a pixel becomes, by the record's operation and the brush.
+// What a pixel becomes, by the record's operation and the brush, which a `From` would not be given.
 pub fn rule(a: Action, brush: u32) -> Rule
     ensures { result ≡ rule_of a brush }
 {
@@ -48,10 +47,5 @@ pub fn rule(a: Action, brush: u32) -> Rule
 pub fn is_format1(a: Action) -> bool
     ensures { result ≡ is_format1 a }
 {
-    match a {
-        Action::Blend0(_) => false,
-        Action::Blend1(_) => true,
-        Action::Masked(_, _) => false,
-        Action::Raster(_) => false,
-    }
+    matches!(a, Action::Blend1(_))
 }

@@ -1,26 +1,12 @@
-// A row of source pixels and a row of mask bits; nothing is written where there is no source or no mask.
-ghost use Rattle.std.specs.Prelude.{ℕ, ◌*◌, ◌≤◌, ◌<◌, length, get_or};
+// A row of source pixels and a row of mask bits; nothing is written where there is no source or no mask. The record is plain, with `Good` as a
+// clause, and no type of its own, as `judge::check` answers it.
+ghost use Rattle.std.specs.Prelude.{◌≤◌, ◌<◌, length};
 ghost use Rattle.words.specs.Bytes.{magnitude32};
-ghost use Rattle.words.specs.Filled.{Filled};
-ghost use Rattle.sample.specs.Stored.{stored1};
 ghost use Rattle.meaning.specs.Rows.{SourceRow, SourceFilled, MaskRow, MaskFilled};
 
 use dib::Masks;
 use judge::Record;
-
-// The bits of these columns, from the bytes of their row.
-fn bits(line: &[u8], columns: &[u32], out: &mut [u8])
-    requires { (length columns.now ≤ length out.old) × ((k : ℕ) → k < length columns.now → get_or columns.now k 0 < length line.now * 8) }
-    ensures { Filled (λ k. stored1 line.now (get_or columns.now k 0))
-        out.old (length columns.now) out.new }
-{
-    let mut k = 0;
-    while k < columns.len() {
-        let column = columns[k] as usize;
-        out[k] = sample::stored::bit(line, column) as u8;
-        k += 1;
-    }
-}
+use words::fill::mapped;
 
 // s is the record. The source pixels of these columns of the source, in the row that row j of the target reads.
 pub fn of_source(
@@ -36,8 +22,7 @@ pub fn of_source(
     requires in_rows { (j < magnitude32 r.cy) × (length columns.now ≤ length out.old) }
     ensures { SourceFilled s.now r j columns.now out.old out.new }
 {
-    let p = r.source;
-    if p.present {
+    if let Some(p) = r.source {
         let row = crate::columns::source_column(p.y, r.cy_src, r.cy, j);
         let line = picture::row(s, p, row);
         fetch::row(p.header.bits, palette, m, line, columns, out);
@@ -50,11 +35,14 @@ pub fn of_mask(s: &[u8], r: Record, columns: &[u32], j: u32, out: &mut [u8])
     requires room { length columns.now ≤ length out.old }
     ensures { MaskFilled s.now r j columns.now out.old out.new }
 {
-    let p = r.mask;
-    if p.present {
+    if let Some(p) = r.mask {
         let rows = words::magnitude(p.header.height);
         let row = crate::columns::mask_column(p.y, j, rows);
         let line = picture::row(s, p, row);
-        bits(line, columns, out);
+        mapped(
+            columns,
+            out,
+            |column| sample::stored::bit(line, column as usize) as u8,
+        );
     }
 }

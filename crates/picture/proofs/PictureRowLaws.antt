@@ -1,6 +1,5 @@
 -- A row of a picture lies in its bits part. Assumes nothing.
 use mathlib.Core.Path.{◌≡◌, ap}
-use mathlib.Core.Bool.{true}
 use mathlib.Core.List.{List}
 use Prim.Native.Nat.{ℕ, ◌+◌, ◌*◌, ◌≤◌, ◌<◌}
 use native.Mathlib.Omega.{arith}
@@ -20,7 +19,7 @@ pub length_header : (s : List ℕ) (p : Picture) → Fit (length s) p → length
 unfolding header_part
 length_header s p f = simp (length-take, length-drop) (omega (arith, f.header_read))
 
-pub row_inside : (s : List ℕ) (p : Picture) → Fit (length s) p → p.present ≡ true → (l : List ℕ) (long m k : ℕ) → l ≡ bits_part s p
+pub row_inside : (s : List ℕ) (p : Picture) → Fit (length s) p → (l : List ℕ) (long m k : ℕ) → l ≡ bits_part s p
     → long ≡ row_length p.header.width p.header.bits → m ≡ rows p.header → k < m → (k + 1) * long ≤ length l
-row_inside s p f t l long m k b a g q =
-    row_in p.header l long m k a g q (omega (arith, ap length b, length_bits s p f, (f.sound t).rows_ok))
+row_inside s p f l long m k b a g q =
+    row_in p.header l long m k a g q (omega (arith, ap length b, length_bits s p f, f.sound.rows_ok))

@@ -1,5 +1,5 @@
 -- Document 01, "Reading a picture": the palette and the rows of a record's source or mask. Definitions only.
-use Rattle.std.specs.Prelude.{cond, ℕ, List, drop, replicate, leb}
+use Rattle.std.specs.Prelude.{cond, ℕ, List, drop, replicate, leb, Option, Some, None}
 use Rattle.pixel.specs.Position.{row_length}
 use Rattle.dib.specs.declared.Header.{Header}
 use Rattle.dib.specs.Header.{table_start, entries, top_down, rows}
@@ -18,9 +18,10 @@ shown_entries h = cond (leb h.bits 8) (entries h) 0
 unfoldable pub header_palette : (header : List ℕ) → Header → List ℕ
 header_palette header h = palette_of (drop (table_start h) header) (shown_entries h)
 
--- of an absent picture all is black
-unfoldable pub picture_palette : List ℕ → Picture → List ℕ
-picture_palette s p = cond p.present (header_palette (header_part s p) p.header) black
+-- where there is no picture, all is black
+unfoldable pub picture_palette : List ℕ → Option Picture → List ℕ
+picture_palette s None = black
+picture_palette s (Some p) = header_palette (header_part s p) p.header
 
 -- the bytes of a row, counted from the top
 abbrev pub picture_row : List ℕ → Picture → (row : ℕ) → List ℕ

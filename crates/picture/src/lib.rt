@@ -1,7 +1,8 @@
 // The pictures of a record: palette, bits part and rows.
 #![tactic(auto)]
 
-ghost use Rattle.std.specs.Prelude.{◌≡◌, true, false, ◌≤◌, ◌<◌, length};
+ghost use Rattle.std.specs.Prelude.{◌≡◌, ◌+◌, false, ◌≤◌, ◌<◌, length};
+ghost use Rattle.std.specs.Option.{ForSome};
 ghost use Rattle.dib.specs.Header.{rows, entries};
 ghost use Rattle.dib.specs.HeaderStatus.{bad_header};
 ghost use Rattle.sample.specs.At.{Colours};
@@ -12,17 +13,19 @@ ghost use Rattle.picture.specs.Shown.{black as black_of, shown_entries, header_p
 use dib::Header;
 use judge::Picture;
 
-// The header part of a picture: the record's own bytes.
+// The header part of a picture: the record's own bytes. It and `bits_part` are a call each: one function over both would be told which.
+#[tactic(auto, unfolding(judge::specs::Record::header_part))]
 pub fn header_part(s: &[u8], p: Picture) -> &[u8]
-    requires { Fit (length s.now) p }
+    requires { p.bmi + p.bmi_len ≤ length s.now }
     ensures { result.now ≡ header_part s.now p }
 {
     words::part(s, p.bmi as usize, p.bmi_len as usize)
 }
 
 // The bits part of a picture: the record's own bytes.
+#[tactic(auto, unfolding(judge::specs::Record::bits_part))]
 pub fn bits_part(s: &[u8], p: Picture) -> &[u8]
-    requires { Fit (length s.now) p }
+    requires { p.bits + p.bits_len ≤ length s.now }
     ensures { result.now ≡ bits_part s.now p }
 {
     words::part(s, p.bits as usize, p.bits_len as usize)
@@ -54,21 +57,21 @@ fn header_palette(header: &[u8], h: Header) -> [u32; 256]
     sample::palette::read(&header[from..], n)
 }
 
-// The palette of a picture; of an absent one it is black.
-pub fn palette(s: &[u8], p: Picture) -> [u32; 256]
-    requires { Fit (length s.now) p }
-    ensures { (result ≡ picture_palette s.now p) × Colours result }
+// The palette of a picture; where there is none, it is black.
+#[tactic(auto, using(crate::proofs::PictureRowLaws::length_header), unfolding(crate::specs::Shown::picture_palette))]
+pub fn palette(s: &[u8], picture: Option<Picture>) -> [u32; 256]
+    requires { ForSome picture (Fit (length s.now)) }
+    ensures { (result ≡ picture_palette s.now picture) × Colours result }
 {
-    if p.present {
-        let h = p.header;
-        return header_palette(header_part(s, p), h);
+    match picture {
+        Some(p) => header_palette(header_part(s, p), p.header),
+        None => black(),
     }
-    black()
 }
 
-// The bytes of a row of a present picture, counted from its top.
+// The bytes of a row of a picture, counted from its top.
 pub fn row(s: &[u8], p: Picture, row: u32) -> &[u8]
-    requires { Fit (length s.now) p × (p.present ≡ true) × (row < rows p.header) }
+    requires { Fit (length s.now) p × (row < rows p.header) }
     ensures { result.now ≡ picture_row s.now p row }
 {
     let h = p.header;

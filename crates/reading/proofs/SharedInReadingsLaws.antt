@@ -1,8 +1,10 @@
 -- A reading asks for the check's answer, whose number is the record's status: 21 or one before it. Assumes nothing.
 use mathlib.Core.Path.{◌≡◌, refl, sym, ap, ◌∙◌}
-use mathlib.Core.Bool.{Bool, true, false, cond}
+use mathlib.Core.Bool.{Bool}
 use mathlib.Core.List.{List}
 use Prim.Native.Nat.{ℕ, zero, suc}
+use Rattle.std.specs.Prelude.{Option, Some, None, Err}
+use Rattle.std.specs.Option.{ok_or}
 use Rattle.words.specs.Status.{or_else}
 use Rattle.judge.specs.declared.Record.{Record}
 use Rattle.judge.specs.declared.Picture.{Picture}
@@ -11,25 +13,25 @@ use Rattle.judge.specs.Check.{status_of, settled, check_of}
 use Rattle.judge.specs.SharedBytes.{SharesBytes, before21}
 use Rattle.judge.proofs.SharedBytesLaws.{shared_bytes}
 use Rattle.picture.specs.Shown.{black}
-use Rattle.reading.specs.Reading.{present, none, wanted, found_in, found_of, reading_from, empty_reading, reading_of, palette_from, read_palette}
+use Rattle.reading.specs.Reading.{wanted, found_in, found_of, reading_from, empty_reading, reading_of, palette_from, read_palette}
 use Rattle.reading.specs.SharedInReadings.{SharedInReadings}
 
-nothing_found : (mask : Bool) (early : ℕ) (r : Record) → found_in mask (settled (or_else early 21) r) ≡ none (or_else early 21)
+nothing_found : (mask : Bool) (early : ℕ) (r : Record) → found_in mask (settled (or_else early 21) r) ≡ Err (or_else early 21)
 nothing_found mask zero r = refl
 nothing_found mask (suc k) r = refl
 
-found : (s : List ℕ) (mask : Bool) → SharesBytes s → found_of s mask ≡ none (or_else (before21 s) 21)
+found : (s : List ℕ) (mask : Bool) → SharesBytes s → found_of s mask ≡ Err (or_else (before21 s) 21)
 unfolding found_of check_of
 found s mask c =
     ap (λ (k : ℕ). found_in mask (settled k (record_of s))) ((shared_bytes s).refused c) ∙ nothing_found mask (before21 s) (record_of s)
 
 -- an accepted record's reading has status 0, whether the picture is there or not
-accepted_number : (there : Bool) (p : Picture) → (reading_from (cond there (present p) (none 0))).status ≡ 0
-accepted_number true p = refl
-accepted_number false p = refl
+accepted_number : (found : Option Picture) → (reading_from (ok_or found 0)).status ≡ 0
+accepted_number None = refl
+accepted_number (Some p) = refl
 
 number_of : (k : ℕ) (mask : Bool) (r : Record) → (reading_from (found_in mask (settled k r))).status ≡ k
-number_of zero mask r = accepted_number (wanted mask r).present (wanted mask r)
+number_of zero mask r = accepted_number (wanted mask r)
 number_of (suc k) mask r = refl
 
 refused : (s : List ℕ) (mask : Bool) → SharesBytes s → reading_of s mask ≡ empty_reading (or_else (before21 s) 21)

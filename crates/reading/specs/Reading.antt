@@ -1,13 +1,12 @@
 -- Document 01, "Reading a picture": what a reading for the source or the mask answers. Definitions only.
-use Rattle.std.specs.Prelude.{ℕ, ◌+◌, ◌*◌, ◌≤◌, Bool, false, cond, List, ◌≡◌, length, drop}
+use Rattle.std.specs.Prelude.{ℕ, ◌+◌, ◌*◌, ◌≤◌, Bool, false, cond, List, ◌≡◌, length, drop, Option, Result, Ok, Err}
+use Rattle.std.specs.Option.{ok_or}
 use Rattle.words.specs.Bytes.{part_of}
 use Rattle.dib.specs.Header.{top_down, rows, table_start}
 use Rattle.dib.specs.HeaderStatus.{bits_needed}
 use Rattle.sample.specs.Palette.{palette_of}
 use Rattle.judge.specs.declared.Picture.{Picture}
 use Rattle.judge.specs.declared.Record.{Record}
-use Rattle.judge.specs.declared.Checked.{Checked}
-use Rattle.judge.specs.declared.Checked.TheVariants.{Accepted, Refused}
 use Rattle.judge.specs.Record.{header_part}
 use Rattle.judge.specs.Check.{check_of}
 use Rattle.picture.specs.Shown.{black, shown_entries, header_palette}
@@ -15,21 +14,17 @@ use Rattle.reading.specs.declared.Reading.{Reading}
 
 -- ---- the picture that is asked for
 
--- it is there, or there is none: with a refused record's number, or with 0
-pub data Found : Type 0 where
-  present : Picture → Found
-  none : (status : ℕ) → Found
-
 -- "A reading is asked for source or mask"
-abbrev pub wanted : (mask : Bool) → Record → Picture
+abbrev pub wanted : (mask : Bool) → Record → Option Picture
 wanted mask r = cond mask r.mask r.source
 
--- "if that one is absent, or the type has no mask, it answers 0 with the rest as in a refused reading"
-abbrev pub found_in : (mask : Bool) → Checked → Found
-found_in mask (Accepted r) = cond (wanted mask r).present (present (wanted mask r)) (none 0)
-found_in mask (Refused k) = none k
+-- it is there, or there is none, with a refused record's number: "if that one is absent, or the type has no mask, it answers 0 with the
+-- rest as in a refused reading"
+abbrev pub found_in : (mask : Bool) → Result Record ℕ → Result Picture ℕ
+found_in mask (Ok r) = ok_or (wanted mask r) 0
+found_in mask (Err k) = Err k
 
-unfoldable pub found_of : List ℕ → (mask : Bool) → Found
+unfoldable pub found_of : List ℕ → (mask : Bool) → Result Picture ℕ
 found_of s mask = found_in mask (check_of s)
 
 -- ---- what is read of it
@@ -76,9 +71,9 @@ full_reading p = record {
   };
 }
 
-abbrev pub reading_from : Found → Reading
-reading_from (present p) = full_reading p
-reading_from (none k) = empty_reading k
+abbrev pub reading_from : Result Picture ℕ → Reading
+reading_from (Ok p) = full_reading p
+reading_from (Err k) = empty_reading k
 
 unfoldable pub reading_of : List ℕ → (mask : Bool) → Reading
 reading_of s mask = reading_from (found_of s mask)
@@ -91,9 +86,9 @@ unfoldable pub view_bytes : List ℕ → Reading → List ℕ
 view_bytes s r = part_of s r.view_at r.view_len
 
 -- the palette of the picture that is asked for; black where there is none
-abbrev pub palette_from : List ℕ → Found → List ℕ
-palette_from s (present p) = header_palette (header_part s p) p.header
-palette_from s (none k) = black
+abbrev pub palette_from : List ℕ → Result Picture ℕ → List ℕ
+palette_from s (Ok p) = header_palette (header_part s p) p.header
+palette_from s (Err k) = black
 
 unfoldable pub read_palette : List ℕ → (mask : Bool) → List ℕ
 read_palette s mask = palette_from s (found_of s mask)

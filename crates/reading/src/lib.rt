@@ -8,7 +8,7 @@ ghost use Rattle.dib.specs.HeaderStatus.{bad_fields};
 ghost use Rattle.reading.specs.Reading.{wanted as wanted_of, empty_reading, full_reading, shown_palette, Within, IsReading};
 
 use dib::Masks;
-use judge::{Checked, Picture, Record};
+use judge::{Picture, Record};
 
 // How a view's pixels are stored. The masks are 0 under BI_RGB.
 #[derive(Clone, Copy)]
@@ -21,7 +21,7 @@ pub struct Layout {
 
 // What a reading answers, but for the bytes: the status; where the header part and the view's bytes stand in the record; where the colours
 // that the palette shows stand in the header part, and how many they are; width, rows and layout. Where there is no picture, all is 0 in
-// the 1-bit bottom-up layout.
+// the 1-bit bottom-up layout. The status is a number and no Err, since a refused reading has the rest too (`reading_of`, `lacrumont_read`).
 #[derive(Clone, Copy)]
 pub struct Reading {
     pub status: u32,
@@ -39,17 +39,11 @@ pub struct Reading {
 fn nothing(status: u32) -> Reading
     ensures { result ≡ empty_reading status }
 {
-    let masks = Masks {
-        red: 0,
-        green: 0,
-        blue: 0,
-        alpha: 0,
-    };
     let layout = Layout {
         bits: 1,
         compression: 0,
         top_down: false,
-        masks,
+        masks: Masks::default(),
     };
     Reading {
         status,
@@ -70,12 +64,11 @@ fn full(p: Picture) -> Reading
     ensures { result ≡ full_reading p }
 {
     let h = p.header;
-    let masks = h.masks;
     let layout = Layout {
         bits: h.bits,
         compression: h.compression,
         top_down: dib::is_top_down(h),
-        masks,
+        masks: h.masks,
     };
     Reading {
         status: 0,
@@ -91,31 +84,26 @@ fn full(p: Picture) -> Reading
     }
 }
 
-fn wanted(mask: bool, r: Record) -> Picture
+fn wanted(mask: bool, r: Record) -> Option<Picture>
     ensures { result ≡ wanted_of mask r }
 {
-    if mask {
-        return r.mask;
-    }
-    r.source
+    if mask { r.mask } else { r.source }
 }
 
 // The reading for the source, or for the mask.
 pub fn read(s: &[u8], mask: bool) -> Reading
     ensures { IsReading s.now mask result }
 {
-    let r = match judge::check(s) {
-        Checked::Accepted(r) => r,
-        Checked::Refused(k) => return nothing(k),
-    };
-    let p = wanted(mask, r);
-    if p.present {
-        return full(p);
+    match judge::check(s) {
+        Ok(r) => match wanted(mask, r) {
+            Some(p) => full(p),
+            None => nothing(0),
+        },
+        Err(refusal) => nothing(u32::from(refusal)),
     }
-    nothing(0)
 }
 
-// The header part: all its bytes, the record's own.
+// The header part: all its bytes, the record's own. It and `view_part` are a call each: one function over both would be told which.
 pub fn header_part(s: &[u8], r: Reading) -> &[u8]
     requires { Within (length s.now) r }
     ensures { IsPart s.entry result r.header_at r.header_len }

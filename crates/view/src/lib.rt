@@ -15,7 +15,7 @@ pub struct View<'a> {
     pub layout: Layout,
 }
 
-// A reading for the source or the mask, as one answer.
+// A reading for the source or the mask, as one answer. A refused one has its status beside empty parts and a black palette (`IsWhole`).
 #[derive(Clone, Copy)]
 pub struct Whole<'a> {
     pub status: u32,

@@ -1,6 +1,5 @@
 -- Each turn fetches a row of source pixels and mask bits and paints it, so that what is drawn and saved leads to all rows drawn and saved.
 use mathlib.Core.Path.{◌≡◌}
-use Prim.Native.Nat.{◌-◌}
 use lib.ListN.{length}
 use Rattle.draw.specs.Ready.{Blank}
 use Rattle.draw.proofs.DrawLaws.{PlanRows}
@@ -8,9 +7,5 @@ use Rattle.draw.proofs.rows.Given as goal
 
 abbrev pub invariant-loop-k : goal.invariant-loop-k
 invariant-loop-k l =
-    PlanRows l.s l.p l.initial.surface l.initial.journal l.surface l.journal l.next l.k × (length l.colours ≡ length l.initial.colours) × (length l.bits ≡ length l.initial.bits)
-    × Blank l.p.record.source.present l.p.target.columns.count l.colours × Blank l.p.record.mask.present l.p.target.columns.count l.bits
-
-abbrev pub decreases-loop-k : goal.decreases-loop-k
-decreases-loop-k l =
-    l.p.target.rows.count - l.k
+    PlanRows l.s l.p l.initial.surface l.initial.journal l.surface l.journal l.k × (length l.colours ≡ length l.initial.colours) × (length l.bits ≡ length l.initial.bits)
+    × Blank l.p.record.source l.p.target.columns.count l.colours × Blank l.p.record.mask l.p.target.columns.count l.bits

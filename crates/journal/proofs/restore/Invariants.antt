@@ -4,6 +4,3 @@ use Rattle.journal.proofs.restore.Given as goal
 
 abbrev pub invariant-loop-i : goal.invariant-loop-i
 invariant-loop-i l = Restoring l.width l.journal l.from l.n l.initial.surface l.surface l.i
-
-abbrev pub decreases-loop-i : goal.decreases-loop-i
-decreases-loop-i l = l.i

@@ -1,8 +1,0 @@
--- The columns are filled as far as the row goes, which is what the rows ask for.
-use Rattle.draw.proofs.ReadyLaws.{mapped}
-use Rattle.draw.proofs.mapped.Goals as goal
-
-pub rows-requires-clause-mapped : goal.rows-requires-clause-mapped
-rows-requires-clause-mapped c =
-    let buffers = c.requires.buffers in
-    mapped c.args.p _ _ _ _ buffers.for_columns buffers.for_mask_columns c.fill_source_columns.ensures c.fill_mask_columns.ensures

@@ -1,6 +1,0 @@
--- The buffers are long enough, and new.
-use Rattle.draw.proofs.ReadyLaws.{fresh}
-use Rattle.draw.proofs.narrow.Goals as goal
-
-pub mapped-requires-clause-buffers : goal.mapped-requires-clause-buffers
-mapped-requires-clause-buffers c = fresh c.args.p 64 c.requires.1

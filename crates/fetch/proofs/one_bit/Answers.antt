@@ -1,9 +1,0 @@
--- Each turn looks up one more column's bit in the palette.
-use Rattle.sample.specs.Stored.{stored}
-use Rattle.sample.specs.Colour.{shown}
-use Rattle.fetch.proofs.FetchLaws.{fetch_turns}
-use Rattle.fetch.proofs.one_bit.Goals as goal
-
-pub loop-i-preserved : goal.loop-i-preserved
-unfolding shown stored
-loop-i-preserved c = search fetch_turns

@@ -1,8 +1,0 @@
--- The code's expression is the definition's.
-use mathlib.Core.Path.{refl}
-use Rattle.memory.specs.Memory.{bad_surface}
-use Rattle.memory.proofs.bad_surface.Goals as goal
-
-pub returns : goal.returns
-unfolding bad_surface
-returns c = refl
