@@ -2,7 +2,7 @@
 use mathlib.Core.Path.{◌≡◌, refl, sym, ap, ◌∙◌}
 use mathlib.Core.Bool.{Bool, true, false, cond, ◌&&◌}
 use mathlib.Core.List.{List, [], ◌∷◌}
-use Prim.Native.Nat.{ℕ, ◌+◌, ◌-◌, ◌≤◌, ◌<◌}
+use Prim.Native.Nat.{ℕ, zero, suc, ◌+◌, ◌-◌, ◌≤◌, ◌<◌}
 use native.Mathlib.Omega.{arith}
 use native.Mathlib.Numerals.{add-one}
 use lib.ListN.{length, take, drop, set, length-set}
@@ -13,13 +13,17 @@ use Rattle.words.specs.Bytes.{le32}
 use Rattle.words.proofs.ChoiceLaws.{cond_true, cond_false, and_by_second, and_by_first, and_both}
 use Rattle.meaning.specs.declared.Terms.{Terms}
 use Rattle.meaning.specs.Meaning.{terms_at}
-use Rattle.memory.specs.Memory.{Memory, memory, Outcome}
+use Rattle.memory.specs.Memory.{Memory, Outcome}
 use Rattle.memory.specs.Undoing.{undo_of}
-use Rattle.player.specs.declared.Answer.{Answer}
-use Rattle.player.specs.Outcome.{outcome_of}
+use Rattle.std.specs.Prelude.{Option, Some, None, Result}
+use Rattle.std.specs.Option.{unwrap_or}
+use Rattle.words.specs.declared.refusal.Refusal.{Refusal}
+use Rattle.words.specs.Refusal.{answer_of}
+use Rattle.player.specs.Outcome.{outcome_of, pixels_of}
 use Rattle.player.specs.Calls.{play_with, play_outcome}
 use Rattle.history.specs.Lists.{made}
 use Rattle.history.specs.Run.{play_at, padded, call_length, call_at}
+use Rattle.history.specs.Reported.{length_found}
 use Rattle.history.specs.Stepped.{Stepped}
 
 picked_some : (b : Bool) (x : ℕ) → (cond b x 0 ≡ 0 → ⊥) → (b ≡ true) × (cond b x 0 ≡ x)
@@ -113,16 +117,34 @@ module _ (l : List ℕ) (at : ℕ) where
     unfolding call_at
     call_play_lem z q = rw (eq-eqb (le32 l at) 1 (sym e ∙ z)) q
 
+-- ---- a length that was found, or none
+
+pub none_found : (n : ℕ) → length_found n ≡ None → n ≡ 0
+none_found zero e = refl
+none_found (suc n) e = cc
+
+pub some_found : (n m : ℕ) → length_found n ≡ Some m → (m ≡ n) × (n ≡ 0 → ⊥)
+some_found zero m e = cc
+some_found (suc n) m e = (cc, λ z. omega (arith, z))
+
+unwrapped : (n : ℕ) → unwrap_or (length_found n) 0 ≡ n
+unwrapped zero = refl
+unwrapped (suc n) = refl
+
+pub length_or_0 : (n x : ℕ) (found : Option ℕ) → found ≡ length_found n → x ≡ unwrap_or found 0 → x ≡ n
+length_or_0 n x found e q = q ∙ ap (λ (f : Option ℕ). unwrap_or f 0) e ∙ unwrapped n
+
 -- ---- `one`: the second place of two for its numbers, and what it leaves
 
 pub second_inside : (a : List ℕ) (k v : ℕ) → k + 2 ≤ length a → k + 1 < length (set a k v)
 second_inside a k v h = simp length-set (omega arith)
 
-pub stepped : (w h : ℕ) (l : List ℕ) (at : ℕ) (m : Memory) (r : Answer) (s1 j1 a : List ℕ) (k n : ℕ) → outcome_of r s1 j1 ≡ made w h (call_at l at) m
-    → n ≡ call_length l at → Stepped w h l at m (memory s1 j1 r.used) k a (set (set a k r.status) (k + 1) r.number) (at + n)
-stepped w h l at m r s1 j1 a k n e q = record {
+pub stepped : (w h : ℕ) (l : List ℕ) (at : ℕ) (m after : Memory) (r : Result ℕ Refusal) (a : List ℕ) (k status number n : ℕ)
+    → outcome_of r after ≡ made w h (call_at l at) m → status ≡ answer_of r → number ≡ pixels_of r → n ≡ call_length l at
+    → Stepped w h l at m after k a (set (set a k status) (k + 1) number) (at + n)
+stepped w h l at m after r a k status number n e es en q = record {
   after_is = ap (λ (o : Outcome). o.after) e;
-  answers_are = ap (λ (i : ℕ). set (set a k r.status) i r.number) (add-one k)
+  answers_are = (λ t. set (set a k (es t)) (add-one k t) (en t))
       ∙ ap (λ (o : Outcome). sets a k (o.status ∷ o.number ∷ [])) e;
   next_is = ap (λ (x : ℕ). at + x) q;
 }

@@ -1,11 +1,16 @@
--- What a run answered and left, as the definition has it. Definitions only.
-use Rattle.std.specs.Prelude.{ℕ, List}
+-- What a run answered and left, as the definition has it; the length of a call as the code has it. Definitions only.
+use Rattle.std.specs.Prelude.{ℕ, zero, suc, List, Option, Some, None, Result, Ok, Err}
+use Rattle.words.specs.declared.refusal.Refusal.{Refusal}
+use Rattle.words.specs.Refusal.{number_of}
 use Rattle.history.specs.Run.{Ran, ran}
 use Rattle.history.specs.declared.Report.{Report}
 
-abbrev pub reported : Report → (surface journal answers : List ℕ) → Ran
-reported r surface journal answers = ran r.status r.calls r.used surface journal answers
+-- a refused run made no call
+abbrev pub reported : Result Report Refusal → (surface journal answers : List ℕ) → Ran
+reported (Ok r) surface journal answers = ran 0 r.calls r.used surface journal answers
+reported (Err refusal) surface journal answers = ran (number_of refusal) 0 0 surface journal answers
 
--- the report of a refused run: no call was made
-abbrev pub refused_report : (status : ℕ) → Report
-refused_report status = record { status = status; calls = 0; used = 0 }
+-- a length of 0 stands for none
+abbrev pub length_found : ℕ → Option ℕ
+length_found zero = None
+length_found (suc n) = Some (suc n)

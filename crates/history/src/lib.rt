@@ -1,72 +1,53 @@
-// Runs a list of plays and undos that is given as bytes, each with the real call, and answers what each call answered.
+// Runs a list of plays and undos that is given as bytes, each with the real call, and answers what each call answered. What is lent comes one
+// by one through to the player, whose clauses name each.
 #![tactic(auto)]
 
-ghost use Rattle.std.specs.Prelude.{◌≡◌, true, ◌+◌, ◌*◌, ◌≤◌, length};
+ghost use Rattle.std.specs.Prelude.{◌≡◌, true, ◌+◌, ◌*◌, ◌≤◌, ◌<◌, length};
 ghost use Rattle.std.proofs.lemmas.List.Edits.{sets};
 ghost use Rattle.words.specs.Bytes.{le32};
 ghost use Rattle.memory.specs.Memory.{memory};
 ghost use Rattle.player.specs.Calls.{play_outcome};
 ghost use Rattle.player.specs.Outcome.{outcome_of};
 ghost use Rattle.history.specs.Lists.{made, memory_after, answers as answers_of};
-ghost use Rattle.history.specs.Run.{play_at, padded, call_length, call_at, well_formed, calls_from, numbers_of, run_of};
-ghost use Rattle.history.specs.Reported.{reported, refused_report};
+ghost use Rattle.history.specs.Run.{play_at, padded as padded_of, call_length, call_at, well_formed, calls_from, numbers_of, run_of};
+ghost use Rattle.history.specs.Reported.{reported, length_found};
 ghost use Rattle.history.specs.Stepped.{Stepped};
 
-use player::Answer;
+use words::refusal::Refusal;
 
-// What a run answered: its status, how many calls were made, and the journal's records in use afterwards.
+// What a run answered: how many calls were made, and the journal's records in use afterwards.
 #[derive(Clone, Copy)]
 pub struct Report {
-    pub status: u32,
     pub calls: u32,
     pub used: u64,
 }
 
-// The journal's records in use after a call, and the place of the next one.
-#[derive(Clone, Copy)]
-struct Step {
-    used: u64,
-    at: usize,
-}
-
-// The report of a refused run.
-fn refused(status: u32) -> Report
-    ensures { result ≡ refused_report status }
+// The length of the call that stands whole at a place of the list. The list's two kinds of call, 1 and 2, are matched here and in `call`: an
+// enum would cost a conversion with an error of its own for two arms.
+#[tactic(auto, unfolding(crate::specs::Run::call_length))]
+fn call_length(list: &[u8], at: usize) -> Option<usize>
+    ensures { result ≡ length_found (call_length list.now at) }
 {
-    Report {
-        status: status,
-        calls: 0,
-        used: 0,
-    }
-}
-
-// The length of the call at a place of the list, and 0 where none stands there whole.
-fn call_length(list: &[u8], at: usize) -> usize
-    ensures { result ≡ call_length list.now at }
-{
-    if list.len() < at {
-        return 0;
-    }
-    let room = list.len() - at;
+    let room = list.len().checked_sub(at)?;
     if room < 4 {
-        return 0;
+        return None;
     }
-    let kind = words::read_u32(list, at);
-    if kind == 2 {
-        return 4;
+    let length = match words::read::<4>(list, at) {
+        1 => 32 + padded(words::read::<4>(list, at + 28)),
+        2 => 4,
+        _ => return None,
+    };
+    if room < length {
+        return None;
     }
-    if kind != 1 {
-        return 0;
-    }
-    if room < 32 {
-        return 0;
-    }
-    let size = words::read_u32(list, at + 28) as usize;
-    let whole = 32 + (size + 3) / 4 * 4;
-    if room < whole {
-        return 0;
-    }
-    whole
+    Some(length)
+}
+
+// A length, up to the next multiple of 4.
+fn padded(n: u32) -> usize
+    ensures { (result ≡ padded_of n) × (result < 8589934592) }
+{
+    (n as usize + 3) / 4 * 4
 }
 
 // Do n calls stand from a place on, and nothing behind them?
@@ -74,14 +55,11 @@ fn well_formed(list: &[u8], at: usize, n: u32) -> bool
     ensures { result ≡ well_formed list.now at n }
 {
     let mut place = at;
-    let mut left = n;
-    while 0 < left {
-        let size = call_length(list, place);
-        if size == 0 {
+    for _ in 0..n {
+        let Some(length) = call_length(list, place) else {
             return false;
-        }
-        place += size;
-        left -= 1;
+        };
+        place += length;
     }
     place == list.len()
 }
@@ -92,65 +70,62 @@ fn play_at(
     width: u32,
     height: u32,
     journal: &mut [u8],
-    used: u64,
+    used: &mut u64,
     list: &[u8],
     at: usize,
-) -> Answer
-    requires { at + (32 + padded (le32 list.now (at + 28))) ≤ length list.now }
-    ensures { outcome_of result surface.new journal.new
-        ≡ play_outcome width height (play_at list.now at) (memory surface.old journal.old used) }
+) -> Result<u32, Refusal>
+    requires { at + (32 + padded_of (le32 list.now (at + 28))) ≤ length list.now }
+    ensures { outcome_of result (memory surface.new journal.new used.new)
+        ≡ play_outcome width height (play_at list.now at) (memory surface.old journal.old used.old) }
 {
     let terms = meaning::read_terms(list, at + 4);
-    let count = words::read_u32(list, at + 28) as usize;
+    let count = words::read::<4>(list, at + 28) as usize;
     let s = words::part(list, at + 32, count);
     player::play(surface, width, height, journal, used, s, terms)
 }
 
 // Makes the call at a place of the list.
+#[tactic(auto, using(crate::proofs::CallLaws::play_inside), unfolding(crate::specs::Run::call_at))]
 fn call(
     surface: &mut [u32],
     width: u32,
     height: u32,
     journal: &mut [u8],
-    used: u64,
+    used: &mut u64,
     list: &[u8],
     at: usize,
-) -> Answer
+) -> Result<u32, Refusal>
     requires { call_length list.now at ≡ 0 → ⊥ }
-    ensures { outcome_of result surface.new journal.new
-        ≡ made width height (call_at list.now at) (memory surface.old journal.old used) }
+    ensures { outcome_of result (memory surface.new journal.new used.new)
+        ≡ made width height (call_at list.now at) (memory surface.old journal.old used.old) }
 {
-    let kind = words::read_u32(list, at);
-    if kind != 1 {
-        return player::undo(surface, width, height, journal, used);
+    match words::read::<4>(list, at) {
+        1 => play_at(surface, width, height, journal, used, list, at),
+        _ => player::undo(surface, width, height, journal, used),
     }
-    play_at(surface, width, height, journal, used, list, at)
 }
 
-// Makes the call at a place of the list, with its status and its number at place k of the answers.
+// Makes the call at a place of the list, with its two numbers at place k of the answers; where the next call stands.
 fn one(
     surface: &mut [u32],
     width: u32,
     height: u32,
     journal: &mut [u8],
-    used: u64,
+    used: &mut u64,
     list: &[u8],
     at: usize,
     answers: &mut [u32],
     k: usize,
-) -> Step
+) -> usize
     requires { (call_length list.now at ≡ 0 → ⊥) × (k + 2 ≤ length answers.old) }
-    ensures { Stepped width height list.now at (memory surface.old journal.old used)
-        (memory surface.new journal.new result.used) k answers.old answers.new result.at }
+    ensures { Stepped width height list.now at (memory surface.old journal.old used.old)
+        (memory surface.new journal.new used.new) k answers.old answers.new result }
 {
     let answer = call(surface, width, height, journal, used, list, at);
-    answers[k] = answer.status;
-    answers[k + 1] = answer.number;
-    let next = at + call_length(list, at);
-    Step {
-        used: answer.used,
-        at: next,
-    }
+    let (status, number) = player::numbers(answer);
+    answers[k] = status;
+    answers[k + 1] = number;
+    at + call_length(list, at).unwrap_or(0)
 }
 
 // Makes the list's n calls, one after the other, from none in use; the count in use afterwards.
@@ -171,22 +146,11 @@ fn all(
 {
     let mut used = 0;
     let mut at = 4;
-    let mut i = 0;
-    while i < n {
-        let step = one(
-            surface,
-            width,
-            height,
-            journal,
-            used,
-            list,
-            at,
-            answers,
-            i as usize * 2,
+    for i in 0..n {
+        let k = i as usize * 2;
+        at = one(
+            surface, width, height, journal, &mut used, list, at, answers, k,
         );
-        used = step.used;
-        at = step.at;
-        i += 1;
     }
     used
 }
@@ -200,25 +164,18 @@ pub fn run(
     journal: &mut [u8],
     list: &[u8],
     answers: &mut [u32],
-) -> Report
+) -> Result<Report, Refusal>
     ensures { reported result surface.new journal.new answers.new
         ≡ run_of width height surface.old journal.old list.now answers.old }
 {
-    let status = memory::status(width, height, surface.len(), journal.len(), 0);
-    if status != 0 {
-        return refused(status);
-    }
-    let calls = words::read_u32(list, 0);
+    memory::status(width, height, surface.len(), journal.len(), 0)?;
+    let calls = words::read::<4>(list, 0);
     if !well_formed(list, 4, calls) {
-        return refused(29);
+        return Err(Refusal::MalformedList);
     }
     if answers.len() < calls as usize * 2 {
-        return refused(30);
+        return Err(Refusal::TooManyAnswers);
     }
     let used = all(surface, width, height, journal, list, calls, answers);
-    Report {
-        status: 0,
-        calls: calls,
-        used: used,
-    }
+    Ok(Report { calls, used })
 }

@@ -41,11 +41,10 @@ pub extern "C" fn lacrumont_play(
         bottom,
     };
     let terms = Terms { clip, brush };
-    let before = *used;
-    let a = player::play(surface, width, height, journal, before, s, terms);
-    *used = a.used;
-    *pixels = a.number;
-    a.status
+    let answer = player::play(surface, width, height, journal, used, s, terms);
+    let (status, number) = player::numbers(answer);
+    *pixels = number;
+    status
 }
 
 // Undoes the last play in the journal. `used` and `pixels` as above.
@@ -61,11 +60,10 @@ pub extern "C" fn lacrumont_undo(
     ensures { outcome result pixels.new (memory surface.new journal.now used.new)
         ≡ undo_of width height (memory surface.old journal.now used.old) }
 {
-    let before = *used;
-    let a = player::undo(surface, width, height, journal, before);
-    *used = a.used;
-    *pixels = a.number;
-    a.status
+    let answer = player::undo(surface, width, height, journal, used);
+    let (status, number) = player::numbers(answer);
+    *pixels = number;
+    status
 }
 
 // Runs a list of plays and undos on a surface and a journal with no record in use. `answers` gets two numbers of each call, `calls` their
@@ -84,10 +82,18 @@ pub extern "C" fn lacrumont_run(
     ensures { ran result calls.new used.new surface.new journal.new answers.new
         ≡ run_of width height surface.old journal.old list.now answers.old }
 {
-    let a = history::run(surface, width, height, journal, list, answers);
-    *used = a.used;
-    *calls = a.calls;
-    a.status
+    match history::run(surface, width, height, journal, list, answers) {
+        Ok(report) => {
+            *used = report.used;
+            *calls = report.calls;
+            0
+        }
+        Err(refusal) => {
+            *used = 0;
+            *calls = 0;
+            u32::from(refusal)
+        }
+    }
 }
 
 // Reads the record's source (mask 0) or mask. `out` gets where the header part and the view's bytes stand, width, rows and layout.
@@ -106,7 +112,7 @@ pub extern "C" fn lacrumont_read(s: &[u8], mask: u32, out: &mut [u64; 13]) -> u3
         a.rows as u64,
         l.bits as u64,
         l.compression as u64,
-        words::flag(l.top_down),
+        u64::from(l.top_down),
         l.masks.red as u64,
         l.masks.green as u64,
         l.masks.blue as u64,

@@ -14,8 +14,7 @@ use Rattle.words.proofs.ListLaws.{sets_append}
 use Rattle.words.proofs.ChoiceLaws.{cond_true, cond_false}
 use Rattle.judge.specs.declared.Record.{Record}
 use Rattle.judge.specs.Record.{record_of}
-use Rattle.judge.specs.declared.Checked.{Checked}
-use Rattle.judge.specs.declared.Checked.TheVariants.{Accepted, Refused}
+use Rattle.std.specs.Prelude.{Result, Ok, Err}
 use Rattle.judge.specs.Check.{status_of, settled, check_of, status_in}
 use Rattle.judge.proofs.CheckLaws.{check_number}
 use Rattle.judge.proofs.AcceptedLaws.{accepted as accepted_is}
@@ -33,9 +32,7 @@ use Rattle.meaning.specs.declared.Terms.{Terms}
 use Rattle.meaning.specs.Meaning.{meaning_in, meaning_of, cover_in, work_by, work_of}
 use Rattle.draw.specs.declared.Plan.{Plan}
 use Rattle.draw.specs.Ready.{Drawn}
-use Rattle.player.specs.declared.Answer.{Answer}
 use Rattle.player.specs.Calls.{play_with, work, play_outcome, accepted_outcome}
-use Rattle.player.specs.Outcome.{outcome_of, refused_answer}
 
 -- ---- whatever is drawn
 
@@ -93,10 +90,9 @@ module _ (w h : ℕ) (s j : List ℕ) (u : ℕ) (r : List ℕ) (n : Record) (o :
   count_is : counted (work_on t) ≡ t.columns.count * t.rows.count
   count_is = length_points t ∙ mul_comm t.rows.count t.columns.count
 
-  pub play_full : (a : Answer) → length j / stride - u < t.columns.count * t.rows.count + 1 → a ≡ refused_answer 14 u
-      → outcome_of a s j ≡ accepted_outcome w (work_of w h (meaning_in r n) o) (memory s j u)
-  play_full a l q =
-      ap (λ (a : Answer). outcome_of a s j) q ∙ no_room w (work_on t) s j u _ count_is l ∙ ap (λ (k : Work). accepted_outcome w k (memory s j u)) work_is
+  pub play_full : length j / stride - u < t.columns.count * t.rows.count + 1
+      → outcome 14 0 (memory s j u) ≡ accepted_outcome w (work_of w h (meaning_in r n) o) (memory s j u)
+  play_full l = no_room w (work_on t) s j u _ count_is l ∙ ap (λ (k : Work). accepted_outcome w k (memory s j u)) work_is
 
   -- the rows are drawn by the plan that the code makes
   abbrev plan : Plan
@@ -111,12 +107,12 @@ module _ (w h : ℕ) (s j : List ℕ) (u : ℕ) (r : List ℕ) (n : Record) (o :
 
 -- ---- the whole play
 
-abbrev is_refused : Checked → Bool
-is_refused (Accepted n) = false
-is_refused (Refused k) = true
+abbrev is_refused : Result Record ℕ → Bool
+is_refused (Ok n) = false
+is_refused (Err k) = true
 
 -- a refused record's status is no 0
-refused_some : (k status : ℕ) (n : Record) → Refused k ≡ settled status n → (status ≡ k) × (k ≡ 0 → ⊥)
+refused_some : (k status : ℕ) (n : Record) → Err k ≡ settled status n → (status ≡ k) × (k ≡ 0 → ⊥)
 refused_some k zero n e = absurd (true≢false (ap is_refused e))
 refused_some k (suc status) n e = let q = ap status_in e in (sym q, λ z. omega (arith, q))
 
@@ -140,18 +136,17 @@ module _ (w h : ℕ) (s j : List ℕ) (u : ℕ) (r : List ℕ) (o : Terms) where
   play_is = refl
 
   module _ (b : ℕ) (eb : b ≡ limits w h (length s) (length j) u) where
-    pub play_limits : (a : Answer) → (b ≡ 0 → ⊥) → a ≡ refused_answer b u → outcome_of a s j ≡ play_outcome w h (play_with r o) (memory s j u)
-    play_limits a z q =
-        ap (λ (a : Answer). outcome_of a s j) q ∙ by_memory b (status_of r) z ∙ ap (λ (k : ℕ). settled_by k (status_of r)) eb ∙ play_is
+    pub play_limits : (b ≡ 0 → ⊥) → outcome b 0 (memory s j u) ≡ play_outcome w h (play_with r o) (memory s j u)
+    play_limits z = by_memory b (status_of r) z ∙ ap (λ (k : ℕ). settled_by k (status_of r)) eb ∙ play_is
 
-    module _ (z : b ≡ 0) (v : Checked) (ev : v ≡ check_of r) where
-      pub play_refused : (k : ℕ) (a : Answer) → v ≡ Refused k → a ≡ refused_answer k u → outcome_of a s j ≡ play_outcome w h (play_with r o) (memory s j u)
+    module _ (z : b ≡ 0) (v : Result Record ℕ) (ev : v ≡ check_of r) where
+      pub play_refused : (k : ℕ) → v ≡ Err k → outcome k 0 (memory s j u) ≡ play_outcome w h (play_with r o) (memory s j u)
       unfolding check_of
-      play_refused k a q p =
+      play_refused k q =
           let some = refused_some k (status_of r) (record_of r) (sym q ∙ ev) in
-          ap (λ (a : Answer). outcome_of a s j) p ∙ by_reading k some.1 ∙ ap₂ settled_by (sym z ∙ eb) (sym some.0) ∙ play_is
+          by_reading k some.1 ∙ ap₂ settled_by (sym z ∙ eb) (sym some.0) ∙ play_is
 
-      pub play_accepted : (n : Record) (r' : Outcome) → v ≡ Accepted n → r' ≡ accepted_outcome w (work_of w h (meaning_in r n) o) (memory s j u)
+      pub play_accepted : (n : Record) (r' : Outcome) → v ≡ Ok n → r' ≡ accepted_outcome w (work_of w h (meaning_in r n) o) (memory s j u)
           → r' ≡ play_outcome w h (play_with r o) (memory s j u)
       unfolding work meaning_of
       play_accepted n r' q p =

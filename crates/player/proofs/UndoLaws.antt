@@ -14,8 +14,6 @@ use Rattle.journal.specs.Restoring.{restored, any_off}
 use Rattle.memory.specs.Memory.{Memory, memory, Outcome, outcome, settle, limits}
 use Rattle.memory.specs.Undoing.{named, bad_top, undone, undo_status, undo_of}
 use Rattle.memory.proofs.LimitLaws.{Passed, passed}
-use Rattle.player.specs.declared.Answer.{Answer}
-use Rattle.player.specs.Outcome.{outcome_of, refused_answer}
 
 by_status : (w h : ℕ) (m : Memory) (k : ℕ) → undo_status w h m ≡ k → settle k m (outcome 0 (named m) (undone w m)) ≡ undo_of w h m
 unfolding undo_of
@@ -31,13 +29,13 @@ module _ (w h : ℕ) (s j : List ℕ) (u : ℕ) where
   abbrev later : ℕ
   later = given 15 (eqb u 0) (given 16 (bad_top w h (memory s j u)) 0)
 
-  refuses : (r : Answer) (k : ℕ) → undo_status w h (memory s j u) ≡ suc k → r ≡ refused_answer (suc k) u → outcome_of r s j ≡ undo_of w h (memory s j u)
-  refuses r k q e = ap (λ (a : Answer). outcome_of a s j) e ∙ by_status w h (memory s j u) (suc k) q
+  refuses : (k : ℕ) → undo_status w h (memory s j u) ≡ suc k → outcome (suc k) 0 (memory s j u) ≡ undo_of w h (memory s j u)
+  refuses k q = by_status w h (memory s j u) (suc k) q
 
   module _ (b : ℕ) (eb : b ≡ limits w h (length s) (length j) u) where
-    pub undo_limits : (r : Answer) → (b ≡ 0 → ⊥) → r ≡ refused_answer b u → outcome_of r s j ≡ undo_of w h (memory s j u)
-    undo_limits r t e =
-        ap (λ (a : Answer). outcome_of a s j) e ∙ settled b later (memory s j u) _ t
+    pub undo_limits : (b ≡ 0 → ⊥) → outcome b 0 (memory s j u) ≡ undo_of w h (memory s j u)
+    undo_limits t =
+        settled b later (memory s j u) _ t
         ∙ by_status w h (memory s j u) (or_else b later) (ap (λ (k : ℕ). or_else k later) (sym eb))
 
     module _ (z : b ≡ 0) where
@@ -53,8 +51,8 @@ module _ (w h : ℕ) (s j : List ℕ) (u : ℕ) where
       pub named_inside : (n : ℕ) → n ≤ u - 1 → (u - 1 - n + n) * stride ≤ length j
       named_inside n l = omega (arith, limits_passed.enough)
 
-      pub undo_empty : (r : Answer) → u ≡ 0 → r ≡ refused_answer 15 u → outcome_of r s j ≡ undo_of w h (memory s j u)
-      undo_empty r t e = refuses r 14 (used_decides ∙ cond_true _ _ _ (eq-eqb u 0 t)) e
+      pub undo_empty : u ≡ 0 → outcome 15 0 (memory s j u) ≡ undo_of w h (memory s j u)
+      undo_empty t = refuses 14 (used_decides ∙ cond_true _ _ _ (eq-eqb u 0 t))
 
       module _ (a : u ≡ 0 → ⊥) where
         pub last_inside : (u - 1 + 1) * stride ≤ length j
@@ -63,13 +61,13 @@ module _ (w h : ℕ) (s j : List ℕ) (u : ℕ) where
         top_decides : (t : Bool) → bad_top w h (memory s j u) ≡ t → undo_status w h (memory s j u) ≡ given 16 t 0
         top_decides t q = used_decides ∙ cond_false _ _ _ (ne_eqb u 0 a) ∙ ap (λ (t : Bool). given 16 t 0) q
 
-        top_bad : (r : Answer) → bad_top w h (memory s j u) ≡ true → r ≡ refused_answer 16 u → outcome_of r s j ≡ undo_of w h (memory s j u)
-        top_bad r q e = refuses r 15 (top_decides true q) e
+        top_bad : bad_top w h (memory s j u) ≡ true → outcome 16 0 (memory s j u) ≡ undo_of w h (memory s j u)
+        top_bad q = refuses 15 (top_decides true q)
 
         module _ (f : ℕ) (ef : f ≡ (entry_at j (u - 1)).first) where
-          pub undo_unclosed : (r : Answer) → (f ≡ mark → ⊥) → r ≡ refused_answer 16 u → outcome_of r s j ≡ undo_of w h (memory s j u)
+          pub undo_unclosed : (f ≡ mark → ⊥) → outcome 16 0 (memory s j u) ≡ undo_of w h (memory s j u)
           unfolding bad_top
-          undo_unclosed r t e = top_bad r (or_by_first _ _ (or_by_first _ _ (ap not (ne_eqb _ mark (λ q. t (ef ∙ q)))))) e
+          undo_unclosed t = top_bad (or_by_first _ _ (or_by_first _ _ (ap not (ne_eqb _ mark (λ q. t (ef ∙ q))))))
 
           module _ (c : f ≡ mark) (n : ℕ) (en : n ≡ (entry_at j (u - 1)).second) where
             count_decides : (t : Bool) → ltb (u - 1) n ≡ t → bad_top w h (memory s j u) ≡ (t || any_off w h (entries_at j (u - 1 - n) n))
@@ -79,15 +77,15 @@ module _ (w h : ℕ) (s j : List ℕ) (u : ℕ) where
                 || any_off w h (entries_at j (u - 1 - sym en i) (sym en i)))
                 ∙ ap (λ (t : Bool). t || any_off w h (entries_at j (u - 1 - n) n)) q
 
-            pub undo_long : (r : Answer) → u - 1 < n → r ≡ refused_answer 16 u → outcome_of r s j ≡ undo_of w h (memory s j u)
-            undo_long r t e = top_bad r (count_decides true (lt-ltb (u - 1) n t)) e
+            pub undo_long : u - 1 < n → outcome 16 0 (memory s j u) ≡ undo_of w h (memory s j u)
+            undo_long t = top_bad (count_decides true (lt-ltb (u - 1) n t))
 
             module _ (l : n ≤ u - 1) (o : Bool) (eo : o ≡ any_off w h (entries_at j (u - 1 - n) n)) where
               off_decides : bad_top w h (memory s j u) ≡ o
               off_decides = count_decides false (le-ltb (u - 1) n l) ∙ sym eo
 
-              pub undo_off : (r : Answer) → o ≡ true → r ≡ refused_answer 16 u → outcome_of r s j ≡ undo_of w h (memory s j u)
-              undo_off r t e = top_bad r (off_decides ∙ t) e
+              pub undo_off : o ≡ true → outcome 16 0 (memory s j u) ≡ undo_of w h (memory s j u)
+              undo_off t = top_bad (off_decides ∙ t)
 
               pub undo_done : (s1 : List ℕ) → o ≡ false → s1 ≡ restored w (entries_at j (u - 1 - n) n) s
                   → outcome 0 n (memory s1 j (u - 1 - n)) ≡ undo_of w h (memory s j u)

@@ -1,11 +1,13 @@
 -- What a call answered and left, as an outcome. Definitions only.
-use Rattle.std.specs.Prelude.{ℕ, List}
-use Rattle.memory.specs.Memory.{Outcome, outcome, memory}
-use Rattle.player.specs.declared.Answer.{Answer}
+use Rattle.std.specs.Prelude.{ℕ, Result, Ok, Err}
+use Rattle.words.specs.declared.refusal.Refusal.{Refusal}
+use Rattle.words.specs.Refusal.{answer_of}
+use Rattle.memory.specs.Memory.{Memory, Outcome, outcome}
 
-abbrev pub outcome_of : Answer → (surface journal : List ℕ) → Outcome
-outcome_of r surface journal = outcome r.status r.number (memory surface journal r.used)
+-- a call's number (of pixels drawn or restored); "Each returns its number and 0 pixels"
+abbrev pub pixels_of : Result ℕ Refusal → ℕ
+pixels_of (Ok number) = number
+pixels_of (Err refusal) = 0
 
--- the answer of a refused call: "its number and 0 pixels", and "not the count in use" changed
-abbrev pub refused_answer : (status used : ℕ) → Answer
-refused_answer status used = record { status = status; number = 0; used = used }
+abbrev pub outcome_of : Result ℕ Refusal → Memory → Outcome
+outcome_of r after = outcome (answer_of r) (pixels_of r) after

@@ -1,125 +1,116 @@
-// Playing a record, and undoing the last play.
+// Playing a record, and undoing the last play. Surface, sides, journal and count in use come one by one and in no struct, as C lends them:
+// the journal of an undo is lent to be read alone, and each contract names what it leaves of each.
 #![tactic(auto)]
 
 ghost use Rattle.std.specs.Prelude.{◌≡◌, length};
+ghost use Rattle.words.specs.Refusal.{answer_of};
 ghost use Rattle.judge.specs.Good.{Good};
 ghost use Rattle.memory.specs.Memory.{memory, limits};
 ghost use Rattle.memory.specs.Undoing.{undo_of};
 ghost use Rattle.meaning.specs.Meaning.{meaning_in, work_of};
 ghost use Rattle.player.specs.Calls.{play_with, play_outcome, accepted_outcome};
-ghost use Rattle.player.specs.Outcome.{outcome_of, refused_answer};
+ghost use Rattle.player.specs.Outcome.{outcome_of, pixels_of};
 
 use draw::Plan;
-use judge::{Checked, Record};
+use judge::Record;
 use meaning::Terms;
+use words::refusal::Refusal;
 
-// A call's answer: its status, its number (of pixels drawn or restored), and the journal's records in use from now on.
-#[derive(Clone, Copy)]
-pub struct Answer {
-    pub status: u32,
-    pub number: u32,
-    pub used: u64,
-}
-
-// The answer of a refused call.
-fn refused(status: u32, used: u64) -> Answer
-    ensures { result ≡ refused_answer status used }
+// A call's answer as two numbers: its status, and its number of pixels, 0 where it is refused.
+pub fn numbers(answer: Result<u32, Refusal>) -> (u32, u32)
+    ensures { (result.0 ≡ answer_of answer) × (result.1 ≡ pixels_of answer) }
 {
-    Answer {
-        status: status,
-        number: 0,
-        used: used,
+    match answer {
+        Ok(pixels) => (0, pixels),
+        Err(refusal) => (u32::from(refusal), 0),
     }
 }
 
-// Plays a record that was accepted, on memory that passed statuses 1 and 2.
+// Plays a record that was accepted, on memory that passed statuses 1 and 2; answers the pixels drawn.
 fn accepted(
     surface: &mut [u32],
     width: u32,
     height: u32,
     journal: &mut [u8],
-    used: u64,
+    used: &mut u64,
     s: &[u8],
     rec: Record,
     terms: Terms,
-) -> Answer
-    requires { (limits width height (length surface.old) (length journal.old) used ≡ 0) × Good (length s.now) rec }
-    ensures { outcome_of result surface.new journal.new
-        ≡ accepted_outcome width (work_of width height (meaning_in s.now rec) terms) (memory surface.old journal.old used) }
+) -> Result<u32, Refusal>
+    requires { (limits width height (length surface.old) (length journal.old) used.old ≡ 0) × Good (length s.now) rec }
+    ensures { outcome_of result (memory surface.new journal.new used.new)
+        ≡ accepted_outcome width (work_of width height (meaning_in s.now rec) terms) (memory surface.old journal.old used.old) }
 {
+    let first = *used;
     let bounds = rec.bounds;
     let clip = terms.clip;
     let t = region::clipped_target(width, height, clip, bounds, rec.x, rec.y, rec.cx, rec.cy);
     let pixels = t.columns.count * t.rows.count;
     let records = journal.len() / journal::STRIDE;
-    let free = records as u64 - used;
+    let free = records as u64 - first;
     if free < pixels + 1 {
-        return refused(14, used);
+        return Err(Refusal::JournalFull);
     }
     let plan = Plan {
         width,
-        at: used as usize,
+        at: first as usize,
         record: rec,
         target: t,
         brush: terms.brush,
     };
     draw::clipped(surface, journal, s, plan);
-    let closing = (used + pixels) as usize;
+    let closing = (first + pixels) as usize;
     journal::put(journal, closing, journal::MARK, pixels as u32, rec.kind);
-    Answer {
-        status: 0,
-        number: pixels as u32,
-        used: used + pixels + 1,
-    }
+    *used = first + pixels + 1;
+    Ok(pixels as u32)
 }
 
-// Plays record s. A refused play changes nothing.
+// Plays record s; answers the pixels drawn. `used` is the journal's records in use. A refused play changes nothing.
 pub fn play(
     surface: &mut [u32],
     width: u32,
     height: u32,
     journal: &mut [u8],
-    used: u64,
+    used: &mut u64,
     s: &[u8],
     terms: Terms,
-) -> Answer
-    ensures { outcome_of result surface.new journal.new
-        ≡ play_outcome width height (play_with s.now terms) (memory surface.old journal.old used) }
+) -> Result<u32, Refusal>
+    ensures { outcome_of result (memory surface.new journal.new used.new)
+        ≡ play_outcome width height (play_with s.now terms) (memory surface.old journal.old used.old) }
 {
-    let status = memory::status(width, height, surface.len(), journal.len(), used);
-    if status != 0 {
-        return refused(status, used);
-    }
-    let rec = match judge::check(s) {
-        Checked::Accepted(rec) => rec,
-        Checked::Refused(k) => return refused(k, used),
-    };
+    memory::status(width, height, surface.len(), journal.len(), *used)?;
+    let rec = judge::check(s)?;
     accepted(surface, width, height, journal, used, s, rec, terms)
 }
 
-// Undoes the last play. All its records are tested before one pixel is restored: a refused undo changes nothing.
-pub fn undo(surface: &mut [u32], width: u32, height: u32, journal: &[u8], used: u64) -> Answer
-    ensures { outcome_of result surface.new journal.now
-        ≡ undo_of width height (memory surface.old journal.now used) }
+// Undoes the last play; answers the pixels restored. All its records are tested before one pixel is restored: a refused undo changes
+// nothing.
+pub fn undo(
+    surface: &mut [u32],
+    width: u32,
+    height: u32,
+    journal: &[u8],
+    used: &mut u64,
+) -> Result<u32, Refusal>
+    ensures { outcome_of result (memory surface.new journal.now used.new)
+        ≡ undo_of width height (memory surface.old journal.now used.old) }
 {
-    let status = memory::status(width, height, surface.len(), journal.len(), used);
-    if status != 0 {
-        return refused(status, used);
+    memory::status(width, height, surface.len(), journal.len(), *used)?;
+    if *used == 0 {
+        return Err(Refusal::NothingToUndo);
     }
-    if used == 0 {
-        return refused(15, used);
+    let last = *used - 1;
+    let closing = journal::load(journal, last as usize);
+    if closing.first != journal::MARK {
+        return Err(Refusal::BrokenPlay);
     }
-    let last = used - 1;
-    if journal::first(journal, last as usize) != journal::MARK {
-        return refused(16, used);
-    }
-    let named = journal::second(journal, last as usize);
+    let named = closing.second;
     if last < named as u64 {
-        return refused(16, used);
+        return Err(Refusal::BrokenPlay);
     }
     let from = last - named as u64;
     if journal::any_off(journal, from as usize, named as usize, width, height) {
-        return refused(16, used);
+        return Err(Refusal::BrokenPlay);
     }
     journal::restore(
         surface,
@@ -129,9 +120,6 @@ pub fn undo(surface: &mut [u32], width: u32, height: u32, journal: &[u8], used: 
         from as usize,
         named as usize,
     );
-    Answer {
-        status: 0,
-        number: named,
-        used: from,
-    }
+    *used = from;
+    Ok(named)
 }

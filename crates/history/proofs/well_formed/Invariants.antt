@@ -1,10 +1,8 @@
 -- The list is walked by its calls' lengths, and ends where the definition's walk ends.
 use mathlib.Core.Path.{◌≡◌}
+use Prim.Native.Nat.{◌-◌}
 use Rattle.history.specs.Run.{well_formed}
 use Rattle.history.proofs.well_formed.Given as goal
 
-abbrev pub invariant-loop-left : goal.invariant-loop-left
-invariant-loop-left l = well_formed l.list l.place l.left ≡ well_formed l.list l.at l.n
-
-abbrev pub decreases-loop-left : goal.decreases-loop-left
-decreases-loop-left l = l.left
+abbrev pub invariant-loop : goal.invariant-loop
+invariant-loop l = well_formed l.list l.place (l.n - l.counter) ≡ well_formed l.fn.list l.fn.at l.fn.n

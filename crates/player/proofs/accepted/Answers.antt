@@ -8,30 +8,30 @@ use Rattle.player.proofs.accepted.Goals as goal
 pub overflow_mul-pixels : goal.overflow_mul-pixels
 overflow_mul-pixels c =
     let a = c.args in
-    let few = pixels_few a.width a.height _ _ a.used a.terms.clip a.rec _ c.requires.0 c.clipped_target-t.ensures in
+    let few = pixels_few a.width a.height _ _ a.used.now a.terms.clip a.rec _ c.requires.0 c.clipped_target-t.ensures in
     omega (arith, few)
 
 pub overflow_sub-free : goal.overflow_sub-free
 overflow_sub-free c =
     let a = c.args in
-    omega (arith, (passed a.width a.height _ _ a.used c.requires.0).enough)
+    omega (arith, (passed a.width a.height _ _ a.used.now c.requires.0).enough)
 
 pub overflow_add-pixels : goal.overflow_add-pixels
 overflow_add-pixels c =
     let a = c.args in
-    let few = pixels_few a.width a.height _ _ a.used a.terms.clip a.rec _ c.requires.0 c.clipped_target-t.ensures in
+    let few = pixels_few a.width a.height _ _ a.used.now a.terms.clip a.rec _ c.requires.0 c.clipped_target-t.ensures in
     omega (arith, few)
 
 pub returns-then-free-pixels : goal.returns-then-free-pixels
 returns-then-free-pixels c =
     let a = c.args in
-    play_full a.width a.height _ _ a.used _ a.rec a.terms _ c.requires.0 c.clipped_target-t.ensures c.refused.result
-    c.if-free-pixels.true c.refused.ensures
+    play_full a.width a.height _ _ a.used.now _ a.rec a.terms _ c.requires.0 c.clipped_target-t.ensures
+    c.if-free-pixels.true
 
 pub clipped-requires : goal.clipped-requires
 clipped-requires c =
     let a = c.args in
-    let memory = passed a.width a.height _ _ a.used c.requires.0 in
+    let memory = passed a.width a.height _ _ a.used.now c.requires.0 in
     let room = c.if-free-pixels.false in
     ready _ a.height a.terms.clip _ _ _ c.requires.1 c.clipped_target-t.ensures memory.wide.1 memory.high.1
     memory.pixels_are (omega (arith, memory.enough, room))
@@ -39,17 +39,17 @@ clipped-requires c =
 pub overflow_cast-pixels : goal.overflow_cast-pixels
 overflow_cast-pixels c =
     let a = c.args in
-    let few = pixels_few a.width a.height _ _ a.used a.terms.clip a.rec _ c.requires.0 c.clipped_target-t.ensures in
+    let few = pixels_few a.width a.height _ _ a.used.now a.terms.clip a.rec _ c.requires.0 c.clipped_target-t.ensures in
     omega (arith, few)
 
 pub overflow_cast-result : goal.overflow_cast-result
 overflow_cast-result c =
     let a = c.args in
-    let few = pixels_few a.width a.height _ _ a.used a.terms.clip a.rec _ c.requires.0 c.clipped_target-t.ensures in
+    let few = pixels_few a.width a.height _ _ a.used.now a.terms.clip a.rec _ c.requires.0 c.clipped_target-t.ensures in
     omega (arith, few)
 
 pub returns : goal.returns
 returns c =
     let a = c.args in
-    play_drawn a.width a.height _ _ a.used _ a.rec a.terms _ c.requires.0 c.clipped_target-t.ensures
+    play_drawn a.width a.height _ _ a.used.now _ a.rec a.terms _ c.requires.0 c.clipped_target-t.ensures
     c.if-free-pixels.false _ _ _ c.clipped.ensures c.put.ensures

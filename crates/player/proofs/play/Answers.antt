@@ -1,23 +1,33 @@
 -- The statuses are asked in their order, and each return is the definition's case.
-use mathlib.Core.Path.{sym, ◌∙◌}
+use mathlib.Core.Path.{refl, sym, ap, ◌∙◌}
+use Rattle.words.specs.Refusal.{numbered}
+use Rattle.words.proofs.RefusalLaws.{number_some, accepts, refuses}
 use Rattle.player.proofs.PlayLaws.{play_limits, play_refused, play_accepted}
 use Rattle.judge.proofs.AcceptedLaws.{accepted}
+use borrow.Author.Rules.{rules}
 use Rattle.player.proofs.play.Goals as goal
 
-pub returns-then-status-ne0 : goal.returns-then-status-ne0
-returns-then-status-ne0 c = search play_limits
+pub returns-in_err-status : goal.returns-in_err-status
+returns-in_err-status c =
+    let a = c.args in
+    let e = play_limits a.width a.height a.surface.now a.journal.now a.used.now a.s.now a.terms _
+    (refuses c.status.ensures c.in_err-status.was) (number_some _) in
+    search rules
 
-pub returns-in-Refused : goal.returns-in-Refused
-returns-in-Refused c = search play_refused
+pub returns-in_err-rec : goal.returns-in_err-rec
+returns-in_err-rec c =
+    let a = c.args in
+    let e = play_refused a.width a.height a.surface.now a.journal.now a.used.now a.s.now a.terms 0
+    (accepts c.status.ensures c.in_ok-status.was) refl _ c.check.ensures _ (ap numbered c.in_err-rec.was) in
+    search rules
 
 pub accepted-requires : goal.accepted-requires
 accepted-requires c =
-    let passes = sym c.status-status.ensures ∙ c.if-status-ne0.false in
-    (passes, (accepted _ _ (sym c.in-Accepted.is ∙ c.check.ensures)).1)
+    (sym (accepts c.status.ensures c.in_ok-status.was), (accepted _ _ (sym (ap numbered c.in_ok-rec.was) ∙ c.check.ensures)).1)
 
 pub returns : goal.returns
 returns c =
     let a = c.args in
-    play_accepted a.width a.height a.surface.now a.journal.now a.used a.s.now a.terms _
-    c.status-status.ensures c.if-status-ne0.false _ c.check.ensures c.in-Accepted.rec _
-    c.in-Accepted.is c.accepted.ensures
+    play_accepted a.width a.height a.surface.now a.journal.now a.used.now a.s.now a.terms 0
+    (accepts c.status.ensures c.in_ok-status.was) refl _ c.check.ensures c.in_ok-rec.rec _
+    (ap numbered c.in_ok-rec.was) c.accepted.ensures
