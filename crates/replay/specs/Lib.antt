@@ -1,1 +1,4 @@
-pub mod Ready
+pub mod Opcode
+pub mod Found
+pub mod Unread
+pub mod Lengths

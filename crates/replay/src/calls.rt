@@ -1,168 +1,104 @@
-// The calls of a script. A call's bytes are its opcode, its arguments and its byte data, with the rest of the script behind it.
-// All of it is judged before the call is made: a faulty one prints nothing.
-ghost use Rattle.std.specs.Prelude.{◌≡◌, length, IfOk, OnErr};
-ghost use Rattle.replay.specs.Ready.{Found, Lends, Waits, Same};
+// The calls of a script. All of a call is judged before it is made: a faulty one prints nothing.
+ghost use Rattle.replay.specs.Lengths.{SameLent, SameOutput};
 
+use crate::failure::Failure;
 use crate::frame::Frame;
-use crate::output;
-use player::Answer;
-use script_calls::State;
-use std::io;
-
-// The script has a fault: nothing follows.
-pub fn faulty(s: State) -> State
-    ensures { Same s result × (result.waiting ≡ s.waiting) }
-{
-    let mut r = s;
-    r.more = false;
-    r.good = false;
-    r
-}
+use crate::opcode::Opcode;
+use crate::output::Output;
+use script_calls::Lent;
+use std::ops::ControlFlow;
+use words::refusal::Refusal;
 
 // The script's end, behind which no byte may stand.
-fn end(bytes: &[u8], s: State) -> State
-    ensures { Same s result × (result.waiting ≡ s.waiting) }
-{
-    if bytes.len() != 4 {
-        return faulty(s);
+fn end(f: &Frame) -> Result<(), Failure> {
+    if !f.rest.is_empty() {
+        return Err(Failure::Fault);
     }
-    let mut r = s;
-    r.more = false;
-    r
+    Ok(())
 }
 
-// The line of a play or an undo.
-fn answered(rt: &impl Print, output: &mut [u8], s: State, a: Answer) -> io::Result<State>
-    requires { Waits s (length output.old) }
-    ensures ok { IfOk result (λ r. Same s r × Waits r (length output.old)) }
-    ensures err { OnErr result (length output.new ≡ length output.old) }
-{
-    let numbers = [a.status as u64, a.number as u64, a.used];
-    let mut r = s;
-    r.used = a.used;
-    r.waiting = output::line(rt, output, s.waiting, &numbers)?;
-    Ok(r)
+// The numbers of a play's or an undo's line: status, pixels, and the records in use.
+fn numbers(answer: Result<u32, Refusal>, lent: &Lent) -> [u64; 3] {
+    let (status, pixels) = player::numbers(answer);
+    [u64::from(status), u64::from(pixels), lent.used]
 }
 
-fn play(
-    rt: &impl Print,
-    surface: &mut [u32],
-    journal: &mut [u8],
-    output: &mut [u8],
-    bytes: &[u8],
-    f: Frame,
-    s: State,
-) -> io::Result<State>
-    requires { Lends s (length surface.old) (length journal.old) × Waits s (length output.old) × Found f (length bytes.now) }
-    ensures ok { IfOk result (λ r. Same s r × Waits r (length output.old)) }
-    ensures err { OnErr result ((length surface.new ≡ length surface.old) × (length journal.new ≡ length journal.old)
-        × (length output.new ≡ length output.old)) }
+fn read<P: Print>(f: &Frame, output: &mut Output<P>) -> Result<(), Failure>
+    ensures { SameOutput output.old output.new }
 {
-    let from = f.from;
-    let to = f.to;
-    let a = script_calls::play(surface, journal, s, &bytes[from..to], bytes);
-    answered(rt, output, s, a)
-}
-
-fn undo(
-    rt: &impl Print,
-    surface: &mut [u32],
-    journal: &[u8],
-    output: &mut [u8],
-    s: State,
-) -> io::Result<State>
-    requires { Lends s (length surface.old) (length journal.now) × Waits s (length output.old) }
-    ensures ok { IfOk result (λ r. Same s r × Waits r (length output.old)) }
-    ensures err { OnErr result ((length surface.new ≡ length surface.old) × (length output.new ≡ length output.old)) }
-{
-    let a = script_calls::undo(surface, journal, s);
-    answered(rt, output, s, a)
-}
-
-fn read(rt: &impl Print, output: &mut [u8], bytes: &[u8], f: Frame, s: State) -> io::Result<State>
-    requires { Waits s (length output.old) × Found f (length bytes.now) }
-    ensures ok { IfOk result (λ r. Same s r × Waits r (length output.old)) }
-    ensures err { OnErr result (length output.new ≡ length output.old) }
-{
-    let which = words::read_u32(bytes, 4);
-    if 1 < which {
-        return Ok(faulty(s));
-    }
-    let from = f.from;
-    let to = f.to;
-    let numbers = script_calls::read(&bytes[from..to], which == 1);
-    let mut r = s;
-    r.waiting = output::line(rt, output, s.waiting, &numbers)?;
-    Ok(r)
+    let mask = match words::read::<4>(f.call, 4) {
+        0 => false,
+        1 => true,
+        _ => return Err(Failure::Fault),
+    };
+    output.line(&script_calls::read(f.bytes, mask))?;
+    Ok(())
 }
 
 // The sides, and how much of the surface and the journal the next calls are lent.
-fn lend(surface: &[u32], journal: &[u8], bytes: &[u8], s: State) -> State
-    requires { Lends s (length surface.now) (length journal.now) }
-    ensures { Lends result (length surface.now) (length journal.now) × (result.waiting ≡ s.waiting) }
+fn lend(f: &Frame, lent: &mut Lent) -> Result<(), Failure>
+    ensures { SameLent lent.old lent.new }
 {
-    let pixels = words::read_u32(bytes, 12) as usize;
-    let size = words::read_u32(bytes, 16) as usize;
-    if surface.len() < pixels {
-        return faulty(s);
+    let pixels = words::read::<4>(f.call, 12) as usize;
+    let bytes = words::read::<4>(f.call, 16) as usize;
+    if lent.surface.len() < pixels {
+        return Err(Failure::Fault);
     }
-    if journal.len() < size {
-        return faulty(s);
+    if lent.journal.len() < bytes {
+        return Err(Failure::Fault);
     }
-    let mut r = s;
-    r.width = words::read_u32(bytes, 4);
-    r.height = words::read_u32(bytes, 8);
-    r.pixels = pixels;
-    r.bytes = size;
-    r
+    lent.width = words::read::<4>(f.call, 4);
+    lent.height = words::read::<4>(f.call, 8);
+    lent.pixels = pixels;
+    lent.bytes = bytes;
+    Ok(())
 }
 
 // The count in use.
-fn count(bytes: &[u8], s: State) -> State
-    ensures { Same s result × (result.waiting ≡ s.waiting) }
+fn count(f: &Frame, lent: &mut Lent)
+    ensures { SameLent lent.old lent.new }
 {
-    let used = words::read_u32(bytes, 4) as u64;
-    let mut r = s;
-    r.used = used;
-    r
+    lent.used = u64::from(words::read::<4>(f.call, 4));
 }
 
 // Four bytes of the journal.
-fn poke(journal: &mut [u8], bytes: &[u8], s: State) -> State
-    ensures { Same s result × (result.waiting ≡ s.waiting) }
+fn poke(f: &Frame, lent: &mut Lent) -> Result<(), Failure>
+    ensures { SameLent lent.old lent.new }
 {
-    let at = words::read_u32(bytes, 4) as usize;
-    if journal.len() < at + 4 {
-        return faulty(s);
+    let at = words::read::<4>(f.call, 4) as usize;
+    if lent.journal.len() < at + 4 {
+        return Err(Failure::Fault);
     }
-    words::store_u32(journal, at, words::read_u32(bytes, 8));
-    s
+    words::store_u32(lent.journal, at, words::read::<4>(f.call, 8));
+    Ok(())
 }
 
-// The call at the front of the bytes.
-pub fn call(
-    rt: &impl Print,
-    f: Frame,
-    surface: &mut [u32],
-    journal: &mut [u8],
-    output: &mut [u8],
-    bytes: &[u8],
-    s: State,
-) -> io::Result<State>
-    requires { Lends s (length surface.old) (length journal.old) × Waits s (length output.old) × Found f (length bytes.now) }
-    ensures ok { IfOk result (λ r. Lends r (length surface.old) (length journal.old) × Waits r (length output.old)) }
-    ensures err { OnErr result ((length surface.new ≡ length surface.old) × (length journal.new ≡ length journal.old)
-        × (length output.new ≡ length output.old)) }
+// Makes the call. It breaks the script off where it is the script's end.
+pub fn call<P: Print>(
+    f: &Frame,
+    lent: &mut Lent,
+    output: &mut Output<P>,
+) -> Result<ControlFlow<()>, Failure>
+    ensures lent { SameLent lent.old lent.new }
+    ensures output { SameOutput output.old output.new }
 {
-    let op = f.op;
-    match op {
-        0 => Ok(end(bytes, s)),
-        1 => play(rt, surface, journal, output, bytes, f, s),
-        2 => undo(rt, surface, journal, output, s),
-        3 => read(rt, output, bytes, f, s),
-        4 => Ok(lend(surface, journal, bytes, s)),
-        5 => Ok(count(bytes, s)),
-        6 => Ok(poke(journal, bytes, s)),
-        _ => Ok(faulty(s)),
+    match f.opcode {
+        Opcode::End => {
+            end(f)?;
+            return Ok(ControlFlow::Break(()));
+        }
+        Opcode::Play => {
+            let answer = lent.play(f.bytes, f.call);
+            output.line(&numbers(answer, lent))?
+        }
+        Opcode::Undo => {
+            let answer = lent.undo();
+            output.line(&numbers(answer, lent))?
+        }
+        Opcode::Read => read(f, output)?,
+        Opcode::Lend => lend(f, lent)?,
+        Opcode::Count => count(f, lent),
+        Opcode::Poke => poke(f, lent)?,
     }
+    Ok(ControlFlow::Continue(()))
 }

@@ -4,39 +4,45 @@
 #![tactic(auto)]
 
 mod calls;
+mod failure;
 mod frame;
 mod head;
 mod input;
+mod opcode;
 mod output;
 mod turns;
 
+use input::Input;
+use output::Output;
 use std::io;
 use std::io::Read;
 
 fn main(rt: HostRuntime) -> io::Result<()> {
     let mut surface = [0u32; 262144];
     let mut journal = [0u8; 1048576];
-    let mut input = [0u8; 196608];
-    let mut output = [0u8; 65536];
+    let mut read = [0u8; 196608];
+    let mut written = [0u8; 65536];
     let mut stdin = rt.stdin();
     run(
         &rt,
         &mut stdin,
         &mut surface,
         &mut journal,
-        &mut input,
-        &mut output,
+        &mut read,
+        &mut written,
     )
 }
 
-// The arrays as slices: their lengths are the limits of a script.
-fn run(
-    rt: &impl Print,
-    reader: &mut impl Read,
+// The arrays as slices. The lengths of surface and journal are the limits of a script.
+fn run<P: Print, R: Read>(
+    rt: &P,
+    reader: &mut R,
     surface: &mut [u32; 262144],
     journal: &mut [u8; 1048576],
-    input: &mut [u8; 196608],
-    output: &mut [u8; 65536],
+    read: &mut [u8; 196608],
+    written: &mut [u8; 65536],
 ) -> io::Result<()> {
-    head::script(rt, reader, surface, journal, input, output)
+    let mut input = Input::new(reader, read);
+    let mut output = Output::new(rt, written);
+    head::script(&mut input, &mut output, surface, journal)
 }

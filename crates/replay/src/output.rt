@@ -1,66 +1,85 @@
 // Text for standard output, through a buffer that is written where it is full. A text or a number that it cannot make room for, as
 // the write fails, is not put into it.
-ghost use Rattle.std.specs.Prelude.{◌≡◌, ◌+◌, ◌≤◌, length, IfOk, OnErr};
+ghost use Rattle.std.specs.Prelude.{◌≡◌, ◌+◌, ◌≤◌, length, OnOk, OnErr};
 
+use script_format::text::Text;
 use std::io;
 
-pub fn flush(rt: &impl Print, buffer: &[u8], waiting: usize) -> io::Result<()>
-    requires { waiting ≤ length buffer.now }
-{
-    rt.write_all(&buffer[..waiting])
+// The longest number, with the byte after it.
+const NUMBER: usize = 21;
+
+// What waits to be printed. There is always room for a number, once what waits is written.
+#[derive(Drop)]
+pub struct Output<'a, P> {
+    rt: &'a P,
+    text: Text<'a>,
+    ghost room: { 21 ≤ length text.buffer.now },
 }
 
-// Room for `more` bytes.
-fn room(rt: &impl Print, buffer: &[u8], waiting: usize, more: usize) -> io::Result<usize>
-    requires { (waiting ≤ length buffer.now) × (more ≤ length buffer.now) }
-    ensures { IfOk result (λ at. at + more ≤ length buffer.now) }
-{
-    if buffer.len() - waiting < more {
-        flush(rt, buffer, waiting)?;
-        return Ok(0);
+impl<'a, P: Print> Output<'a, P> {
+    ghost use Rattle.replay.specs.Lengths.{SameOutput};
+
+    pub fn new(rt: &'a P, buffer: &'a mut [u8]) -> Output<'a, P>
+        requires { 21 ≤ length buffer.old }
+    {
+        Output {
+            rt,
+            text: Text::new(buffer),
+        }
     }
-    Ok(waiting)
-}
 
-pub fn text(rt: &impl Print, buffer: &mut [u8], waiting: usize, s: &[u8]) -> io::Result<usize>
-    requires { (waiting ≤ length buffer.old) × (length s.now ≤ length buffer.old) }
-    ensures ok { IfOk result (λ end. end ≤ length buffer.old) }
-    ensures err { OnErr result (buffer.new ≡ buffer.old) }
-{
-    let at = room(rt, buffer, waiting, s.len())?;
-    Ok(script_format::text::put(buffer, at, s))
-}
-
-pub fn number(
-    rt: &impl Print,
-    buffer: &mut [u8],
-    waiting: usize,
-    n: u64,
-    after: u8,
-) -> io::Result<usize>
-    requires { (waiting ≤ length buffer.old) × (21 ≤ length buffer.old) }
-    ensures ok { IfOk result (λ end. end ≤ length buffer.old) }
-    ensures err { OnErr result (buffer.new ≡ buffer.old) }
-{
-    let at = room(rt, buffer, waiting, 21)?;
-    let end = script_format::text::decimal(buffer, at, n);
-    buffer[end] = after;
-    Ok(end + 1)
-}
-
-// A line of numbers, separated by single spaces.
-pub fn line(rt: &impl Print, buffer: &mut [u8], waiting: usize, s: &[u64]) -> io::Result<usize>
-    requires { (waiting ≤ length buffer.old) × (21 ≤ length buffer.old) }
-    ensures ok { IfOk result (λ end. end ≤ length buffer.old) }
-    ensures err { OnErr result (length buffer.new ≡ length buffer.old) }
-{
-    let mut at = waiting;
-    let mut left = s.len();
-    while 0 < left {
-        let k = s.len() - left;
-        left -= 1;
-        let after = if left == 0 { b'\n' } else { b' ' };
-        at = number(rt, buffer, at, s[k], after)?;
+    // Writes what waits.
+    pub fn flush(&mut self) -> io::Result<()>
+        ensures flushed { OnOk result (self.new.text.len ≡ 0) }
+        ensures buffer { self.new.text.buffer.now ≡ self.old.text.buffer.now }
+    {
+        self.rt.write_all(self.text.as_bytes())?;
+        self.text.clear();
+        Ok(())
     }
-    Ok(at)
+
+    // Makes room for `more` bytes.
+    fn reserve(&mut self, more: usize) -> io::Result<()>
+        requires { more ≤ length self.old.text.buffer.now }
+        ensures room { OnOk result (self.new.text.len + more ≤ length self.new.text.buffer.now) }
+        ensures buffer { self.new.text.buffer.now ≡ self.old.text.buffer.now }
+    {
+        if self.text.room() < more {
+            self.flush()?;
+        }
+        Ok(())
+    }
+
+    pub fn text(&mut self, s: &[u8]) -> io::Result<()>
+        requires { length s.now ≤ length self.old.text.buffer.now }
+        ensures size { SameOutput self.old self.new }
+        ensures err { OnErr result (self.new.text.buffer.now ≡ self.old.text.buffer.now) }
+    {
+        self.reserve(s.len())?;
+        self.text.put(s);
+        Ok(())
+    }
+
+    pub fn number(&mut self, n: u64, after: u8) -> io::Result<()>
+        ensures size { SameOutput self.old self.new }
+        ensures err { OnErr result (self.new.text.buffer.now ≡ self.old.text.buffer.now) }
+    {
+        self.reserve(NUMBER)?;
+        self.text.decimal(n);
+        self.text.put(&[after]);
+        Ok(())
+    }
+
+    // A line of numbers, separated by single spaces.
+    pub fn line(&mut self, numbers: &[u64]) -> io::Result<()>
+        ensures { SameOutput self.old self.new }
+    {
+        if let Some((last, front)) = numbers.split_last() {
+            for n in front {
+                self.number(*n, b' ')?;
+            }
+            self.number(*last, b'\n')?;
+        }
+        Ok(())
+    }
 }

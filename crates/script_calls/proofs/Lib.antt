@@ -1,3 +1,2 @@
--- What the answers' proofs cite: the parts that a reading asks for, and the line that is printed of them.
-pub mod AskedLaws
+-- What the answers' proofs cite: the line that is printed of a reading's parts.
 pub mod LineLaws

@@ -1,14 +1,15 @@
 -- A reading's parts lie in its record, so they are as long as the reading says, and the line of a whole reading's parts is the reading's line.
 use mathlib.Core.Path.{◌≡◌, refl, ap, subst}
-use mathlib.Core.Bool.{Bool, true, false}
+use mathlib.Core.Bool.{Bool}
 use mathlib.Core.List.{List}
 use Prim.Native.Nat.{ℕ, ◌+◌, ◌≤◌}
 use native.Mathlib.Omega.{arith}
 use lib.ListN.{length, length-take, length-drop}
 use denote.Ref.{Bor}
 use Rattle.words.specs.Bytes.{part_of}
-use Rattle.judge.specs.declared.Checked.{Checked}
-use Rattle.judge.specs.declared.Checked.TheVariants.{Accepted, Refused}
+use Rattle.std.specs.Prelude.{Option, Some, None, Result, Ok, Err}
+use Rattle.judge.specs.declared.Picture.{Picture}
+use Rattle.judge.specs.declared.Record.{Record}
 use Rattle.judge.specs.Check.{check_of}
 use Rattle.reading.specs.declared.Reading.{Reading}
 use Rattle.reading.specs.Reading.{reading_of, header_bytes, view_bytes, empty_reading, full_reading, wanted, Within, IsReading}
@@ -18,13 +19,13 @@ use Rattle.view.specs.declared.Whole.{Whole}
 use Rattle.view.specs.View.{IsWhole}
 use Rattle.script_calls.specs.Asked.{line_parts, read_line}
 
-found : (s : List ℕ) (mask : Bool) (v : Checked) → v ≡ check_of s → (r : Reading) × IsReading s mask r
-found s mask (Refused k) e = (empty_reading k, answers_refused s mask (Refused k) e (empty_reading k) k refl refl)
-found s mask (Accepted r) e = by_present (wanted mask r).present refl
+found : (s : List ℕ) (mask : Bool) (v : Result Record ℕ) → v ≡ check_of s → (r : Reading) × IsReading s mask r
+found s mask (Err k) e = (empty_reading k, answers_refused s mask (Err k) e (empty_reading k) k refl refl)
+found s mask (Ok r) e = by_wanted (wanted mask r) refl
   where
-    by_present : (b : Bool) → (wanted mask r).present ≡ b → (d : Reading) × IsReading s mask d
-    by_present true t = (full_reading (wanted mask r), answers_present s mask (Accepted r) e (full_reading (wanted mask r)) r (wanted mask r) refl refl t refl)
-    by_present false t = (empty_reading 0, answers_none s mask (Accepted r) e (empty_reading 0) r (wanted mask r) refl refl t refl)
+    by_wanted : (o : Option Picture) → wanted mask r ≡ o → (d : Reading) × IsReading s mask d
+    by_wanted None w = (empty_reading 0, answers_none s mask (Ok r) e (empty_reading 0) r refl w refl)
+    by_wanted (Some p) w = (full_reading p, answers_present s mask (Ok r) e (full_reading p) r refl p w refl)
 
 reading_within : (s : List ℕ) (mask : Bool) → Within (length s) (reading_of s mask)
 reading_within s mask = let f = found s mask (check_of s) refl in subst (Within (length s)) f.1.answer f.1.within

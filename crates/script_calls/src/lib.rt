@@ -2,112 +2,103 @@
 #![tactic(auto)]
 
 ghost use Rattle.std.specs.Prelude.{◌≡◌, ◌≤◌, length, take};
-ghost use Rattle.memory.specs.Memory.{memory as memory_with};
-ghost use Rattle.memory.specs.Undoing.{undo_of};
-ghost use Rattle.player.specs.Calls.{play_outcome};
-ghost use Rattle.player.specs.Outcome.{outcome_of};
-ghost use Rattle.script_calls.specs.Asked.{Rest, play_asked, line_parts, read_line};
+ghost use Rattle.script_calls.specs.Asked.{read_line};
 
-use player::Answer;
-use reading::Layout;
+use script_format::sum::{of_bytes, of_words};
+use words::refusal::Refusal;
 
-// What a call leaves for the next one: what the calls are lent (sides, pixels, journal bytes, and the journal's records in use),
-// the bytes that wait to be printed, whether another call may follow, and whether the script is free of faults so far.
-#[derive(Clone, Copy)]
-pub struct State {
+// A script's surface and journal, and how much of them the next calls are lent: the sides, so many pixels and journal bytes, and
+// the journal's records in use.
+#[derive(Drop)]
+pub struct Lent<'a> {
+    pub surface: &'a mut [u32],
+    pub journal: &'a mut [u8],
     pub width: u32,
     pub height: u32,
     pub pixels: usize,
     pub bytes: usize,
     pub used: u64,
-    pub waiting: usize,
-    pub more: bool,
-    pub good: bool,
+    pub ghost pixels_within: { pixels ≤ length surface.now },
+    pub ghost bytes_within: { bytes ≤ length journal.now },
 }
 
-// A play of record s. Behind the opcode stand the clip's four numbers, the brush and a tag, which is not looked at.
-pub fn play(surface: &mut [u32], journal: &mut [u8], m: State, s: &[u8], front: &[u8]) -> Answer
-    requires { (m.pixels ≤ length surface.old) × (m.bytes ≤ length journal.old) }
-    ensures outcome { outcome_of result (take m.pixels surface.new) (take m.bytes journal.new)
-        ≡ play_outcome m.width m.height (play_asked s.now front.now)
-        (memory_with (take m.pixels surface.old) (take m.bytes journal.old) m.used) }
-    ensures rest { (Rest m.pixels surface.old surface.new) × (Rest m.bytes journal.old journal.new) }
-{
-    let terms = meaning::read_terms(front, 4);
-    let pixels = m.pixels;
-    let bytes = m.bytes;
-    player::play(
-        &mut surface[..pixels],
-        m.width,
-        m.height,
-        &mut journal[..bytes],
-        m.used,
-        s,
-        terms,
-    )
+impl<'a> Lent<'a> {
+    ghost use Rattle.memory.specs.Memory.{memory as memory_with};
+    ghost use Rattle.memory.specs.Undoing.{undo_of};
+    ghost use Rattle.player.specs.Calls.{play_outcome};
+    ghost use Rattle.player.specs.Outcome.{outcome_of};
+    ghost use Rattle.script_calls.specs.Asked.{Rest, play_asked};
+    ghost use Rattle.script_calls.specs.Kept.{SameLoan};
+
+    // A play of record s. Behind the opcode of the call stand the clip's four numbers, the brush and a tag, which is not looked at.
+    pub fn play(&mut self, s: &[u8], call: &[u8]) -> Result<u32, Refusal>
+        ensures outcome { outcome_of result
+            (memory_with (take self.old.pixels self.new.surface.now) (take self.old.bytes self.new.journal.now) self.new.used)
+            ≡ play_outcome self.old.width self.old.height (play_asked s.now call.now)
+            (memory_with (take self.old.pixels self.old.surface.now) (take self.old.bytes self.old.journal.now) self.old.used) }
+        ensures rest { (Rest self.old.pixels self.old.surface.now self.new.surface.now)
+            × (Rest self.old.bytes self.old.journal.now self.new.journal.now) }
+        ensures loan { SameLoan self.old self.new }
+    {
+        let terms = meaning::read_terms(call, 4);
+        let pixels = self.pixels;
+        let bytes = self.bytes;
+        player::play(
+            &mut self.surface[..pixels],
+            self.width,
+            self.height,
+            &mut self.journal[..bytes],
+            &mut self.used,
+            s,
+            terms,
+        )
+    }
+
+    // An undo of the last play.
+    pub fn undo(&mut self) -> Result<u32, Refusal>
+        ensures outcome { outcome_of result
+            (memory_with (take self.old.pixels self.new.surface.now) (take self.old.bytes self.new.journal.now) self.new.used)
+            ≡ undo_of self.old.width self.old.height
+            (memory_with (take self.old.pixels self.old.surface.now) (take self.old.bytes self.old.journal.now) self.old.used) }
+        ensures rest { Rest self.old.pixels self.old.surface.now self.new.surface.now }
+        ensures journal { self.new.journal.now ≡ self.old.journal.now }
+        ensures loan { SameLoan self.old self.new }
+    {
+        let pixels = self.pixels;
+        let bytes = self.bytes;
+        let journal = &mut self.journal[..bytes];
+        player::undo(
+            &mut self.surface[..pixels],
+            self.width,
+            self.height,
+            journal,
+            &mut self.used,
+        )
+    }
 }
 
-// An undo of the last play.
-pub fn undo(surface: &mut [u32], journal: &[u8], m: State) -> Answer
-    requires { (m.pixels ≤ length surface.old) × (m.bytes ≤ length journal.now) }
-    ensures outcome { outcome_of result (take m.pixels surface.new) (take m.bytes journal.now)
-        ≡ undo_of m.width m.height (memory_with (take m.pixels surface.old) (take m.bytes journal.now) m.used) }
-    ensures rest { Rest m.pixels surface.old surface.new }
-{
-    let pixels = m.pixels;
-    let bytes = m.bytes;
-    player::undo(
-        &mut surface[..pixels],
-        m.width,
-        m.height,
-        &journal[..bytes],
-        m.used,
-    )
-}
-
-// A reading of record s, as the numbers of its line. The reading is a struct that holds the record's own bytes: it is taken apart here.
+// A reading of record s, as the numbers of its line.
 pub fn read(s: &[u8], mask: bool) -> [u64; 15]
     ensures { result ≡ read_line s.now mask }
 {
     let w = view::read(s, mask);
-    numbers(
-        w.status,
-        w.header,
-        w.view.bytes,
-        w.view.width,
-        w.view.rows,
-        w.view.layout,
-        w.palette,
-    )
-}
-
-fn numbers<'a>(
-    status: u32,
-    header: &'a [u8],
-    bytes: &'a [u8],
-    width: u32,
-    rows: u32,
-    layout: Layout,
-    palette: [u32; 256],
-) -> [u64; 15]
-    ensures { result ≡ line_parts status header.now bytes.now width rows layout palette }
-{
+    let layout = w.view.layout;
     let masks = layout.masks;
     [
-        status as u64,
-        header.len() as u64,
-        script_format::sum::of_bytes(header),
-        bytes.len() as u64,
-        script_format::sum::of_bytes(bytes),
-        width as u64,
-        rows as u64,
-        layout.bits as u64,
-        layout.compression as u64,
-        words::flag(layout.top_down),
-        masks.red as u64,
-        masks.green as u64,
-        masks.blue as u64,
-        masks.alpha as u64,
-        script_format::sum::of_words(&palette),
+        u64::from(w.status),
+        w.header.len() as u64,
+        of_bytes(w.header),
+        w.view.bytes.len() as u64,
+        of_bytes(w.view.bytes),
+        u64::from(w.view.width),
+        u64::from(w.view.rows),
+        u64::from(layout.bits),
+        u64::from(layout.compression),
+        u64::from(layout.top_down),
+        u64::from(masks.red),
+        u64::from(masks.green),
+        u64::from(masks.blue),
+        u64::from(masks.alpha),
+        of_words(&w.palette),
     ]
 }

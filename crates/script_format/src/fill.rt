@@ -15,9 +15,7 @@ fn byte(seed: u32, k: usize) -> u8
 pub fn all(s: &mut [u8], seed: u32)
     ensures { s.new ≡ tabulate (length s.old) (fill_byte seed) }
 {
-    let mut k = 0;
-    while k < s.len() {
-        s[k] = byte(seed, k);
-        k += 1;
+    for (k, b) in s.iter_mut().enumerate() {
+        *b = byte(seed, k);
     }
 }

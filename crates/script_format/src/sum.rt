@@ -3,50 +3,35 @@ ghost use Rattle.std.specs.Prelude.{◌≡◌};
 ghost use Rattle.words.specs.Bytes.{bytes32};
 ghost use Rattle.script_format.specs.Sum.{step, sum_from, sum_of, bytes_of};
 
-// One byte. The prime is 2^40 + 435, so the product modulo 2^64 is formed from the halves of h xor b, and nothing overflows.
+// The sum of no bytes.
+const START: u64 = 14695981039346656037;
+
+// One byte.
+#[tactic(auto, unfolding(crate::specs::Sum::step))]
 fn next(h: u64, b: u8) -> u64
     ensures { result ≡ step h b }
 {
-    let x = h ^ b as u64;
-    let above = x / 4294967296;
-    let below = x % 4294967296;
-    let low = below * 435;
-    let high = (above * 435 + below * 256 + low / 4294967296) % 4294967296;
-    high * 4294967296 + low % 4294967296
+    (h ^ u64::from(b)).wrapping_mul(1099511628211)
 }
 
 // The four bytes of a number, the lowest first.
 fn next_word(h: u64, v: u32) -> u64
     ensures { result ≡ sum_from h (bytes32 v) }
 {
-    let a = next(h, (v % 256) as u8);
-    let b = next(a, (v / 256 % 256) as u8);
-    let c = next(b, (v / 65536 % 256) as u8);
-    next(c, (v / 16777216 % 256) as u8)
+    let [a, b, c, d] = v.to_le_bytes();
+    next(next(next(next(h, a), b), c), d)
 }
 
-// The sum of the bytes.
+// The sum of the bytes. Apart from the next one: a fold over either kind of item would take the step, which is all that they say.
 pub fn of_bytes(s: &[u8]) -> u64
     ensures { result ≡ sum_of s.now }
 {
-    let mut h = 14695981039346656037;
-    let mut k = 0;
-    while k < s.len() {
-        h = next(h, s[k]);
-        k += 1;
-    }
-    h
+    s.iter().fold(START, |h, b| next(h, *b))
 }
 
-// The sum of the numbers' bytes.
+// The sum of the numbers' bytes. A line each: one function over both would be told how an item is summed.
 pub fn of_words(s: &[u32]) -> u64
     ensures { result ≡ sum_of (bytes_of s.now) }
 {
-    let mut h = 14695981039346656037;
-    let mut k = 0;
-    while k < s.len() {
-        h = next_word(h, s[k]);
-        k += 1;
-    }
-    h
+    s.iter().fold(START, |h, v| next_word(h, *v))
 }

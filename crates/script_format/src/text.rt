@@ -1,23 +1,63 @@
-// Text and numbers into a buffer.
-ghost use Rattle.std.specs.Prelude.{◌≡◌, ◌+◌, ◌≤◌, length};
+// Text that grows in lent memory.
+ghost use Rattle.std.specs.Prelude.{◌≡◌, ◌+◌, ◌-◌, ◌≤◌, length, take};
 ghost use Rattle.std.proofs.lemmas.List.Edits.{sets};
-ghost use Rattle.script_format.specs.Text.{Printed};
 
-// The bytes of s to `at`; where they end.
-pub fn put(to: &mut [u8], at: usize, s: &[u8]) -> usize
-    requires { at + length s.now ≤ length to.old }
-    ensures { (result ≡ at + length s.now) × (to.new ≡ sets to.old at s.now) }
-{
-    words::copy(to, at, s);
-    at + s.len()
+// The first `len` bytes of the buffer are the text. No Vec: no library crate here uses the heap.
+#[derive(Drop)]
+pub struct Text<'a> {
+    pub buffer: &'a mut [u8],
+    pub len: usize,
+    pub ghost within: { len ≤ length buffer.now },
 }
 
-// The number's decimal digits to `at`; where they end.
-pub fn decimal(to: &mut [u8], at: usize, n: u64) -> usize
-    requires { at + 20 ≤ length to.old }
-    ensures { Printed n at result to.old to.new }
-{
-    let mut digits = [0u8; 20];
-    let count = io::decimal(n, &mut digits);
-    put(to, at, &digits[..count])
+impl<'a> Text<'a> {
+    ghost use Rattle.script_format.specs.Text.{Printed};
+
+    pub fn new(buffer: &'a mut [u8]) -> Text<'a>
+        ensures { (result.len ≡ 0) × (result.buffer.now ≡ buffer.old) }
+    {
+        Text { buffer, len: 0 }
+    }
+
+    pub fn as_bytes(&self) -> &[u8]
+        ensures { result.now ≡ take self.now.len self.now.buffer.now }
+    {
+        &self.buffer[..self.len]
+    }
+
+    // How many more bytes there is room for.
+    pub fn room(&self) -> usize
+        ensures { result ≡ length self.now.buffer.now - self.now.len }
+    {
+        self.buffer.len() - self.len
+    }
+
+    pub fn clear(&mut self)
+        ensures { (self.new.len ≡ 0) × (self.new.buffer.now ≡ self.old.buffer.now) }
+    {
+        self.len = 0;
+    }
+
+    // The bytes of s.
+    pub fn put(&mut self, s: &[u8])
+        requires { self.old.len + length s.now ≤ length self.old.buffer.now }
+        ensures len { self.new.len ≡ self.old.len + length s.now }
+        ensures bytes { self.new.buffer.now ≡ sets self.old.buffer.now self.old.len s.now }
+        ensures size { length self.new.buffer.now ≡ length self.old.buffer.now }
+    {
+        let end = self.len + s.len();
+        self.buffer[self.len..end].copy_from_slice(s);
+        self.len = end;
+    }
+
+    // The number's decimal digits.
+    pub fn decimal(&mut self, n: u64)
+        requires { self.old.len + 20 ≤ length self.old.buffer.now }
+        ensures printed { Printed n self.old.len self.new.len self.old.buffer.now self.new.buffer.now }
+        ensures size { length self.new.buffer.now ≡ length self.old.buffer.now }
+    {
+        let mut digits = [0u8; 20];
+        let count = io::decimal(n, &mut digits);
+        self.put(&digits[..count]);
+    }
 }

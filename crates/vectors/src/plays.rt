@@ -2,10 +2,11 @@
 ghost use Rattle.std.specs.Prelude.{◌+◌, ◌≤◌, ◌<◌, length, ◌≡◌};
 ghost use Rattle.player.specs.Rop4Order.{make_rop4};
 
-use crate::line;
+use crate::line::{Hex, line, lines};
 use meaning::Terms;
 use region::Rectangle;
 use std::io;
+use words::refusal::Refusal;
 
 // A clip that cuts nothing, and document 01's brush.
 fn everywhere() -> Terms {
@@ -16,7 +17,7 @@ fn everywhere() -> Terms {
         bottom: 100,
     };
     Terms {
-        clip: clip,
+        clip,
         brush: 0x112233,
     }
 }
@@ -61,119 +62,157 @@ fn whole_record() -> [u8; 80] {
     r
 }
 
-// The pixel at a place; 0 past the end.
-fn pixel_at(surface: &[u32], i: usize) -> u32 {
-    if i < surface.len() {
-        return surface[i];
-    }
-    0
-}
-
 // Document 01: "A 36-byte journal takes it".
 pub fn whole(rt: &impl Print) -> io::Result<()> {
     let r = whole_record();
     let mut surface = [0xFF000000u32, 0xFF0000FFu32];
     let mut journal = [0xA5u8; 36];
-    taken(rt, &r, &mut surface, &mut journal)
+    let mut used = 0;
+    let answer = player::play(
+        &mut surface,
+        2,
+        1,
+        &mut journal,
+        &mut used,
+        &r,
+        everywhere(),
+    );
+    let [status, pixels] = numbers(answer);
+    lines(
+        rt,
+        &[
+            ("whole play, 36 bytes: status", status, 0),
+            ("whole play: pixels", pixels, 2),
+            ("whole play: count in use", used, 3),
+        ],
+    )?;
+    played(rt, &surface, &journal)?;
+    undone(rt, &mut surface, &journal, used)
 }
 
-fn taken(rt: &impl Print, r: &[u8], surface: &mut [u32], journal: &mut [u8]) -> io::Result<()> {
-    let a = player::play(surface, 2, 1, journal, 0, r, everywhere());
-    line::number(rt, b"whole play, 36 bytes: status", a.status as u64, 0)?;
-    line::number(rt, b"whole play: pixels", a.number as u64, 2)?;
-    line::number(rt, b"whole play: count in use", a.used, 3)?;
-    played(rt, surface, journal)?;
-    undone(rt, surface, journal, a.used)
+// An answer's status and its number of pixels.
+fn numbers(answer: Result<u32, Refusal>) -> [u64; 2] {
+    let (status, pixels) = player::numbers(answer);
+    [u64::from(status), u64::from(pixels)]
 }
 
-fn played(rt: &impl Print, surface: &[u32], journal: &[u8]) -> io::Result<()> {
-    line::pixel(rt, b"whole play: pixel 0", pixel_at(surface, 0), 0xFF112233)?;
-    line::pixel(rt, b"whole play: pixel 1", pixel_at(surface, 1), 0xFF112233)?;
-    journal_record(rt, b"whole play: record 0", journal, 0, 0, 0, 0xFF000000)?;
-    journal_record(rt, b"whole play: record 1", journal, 1, 1, 0, 0xFF0000FF)?;
+fn played(rt: &impl Print, surface: &[u32; 2], journal: &[u8]) -> io::Result<()> {
+    lines(
+        rt,
+        &[
+            ("whole play: pixel 0", Hex(surface[0]), Hex(0xFF112233)),
+            ("whole play: pixel 1", Hex(surface[1]), Hex(0xFF112233)),
+        ],
+    )?;
+    journal_record(rt, "whole play: record 0", journal, 0, [0, 0, 0xFF000000])?;
+    journal_record(rt, "whole play: record 1", journal, 1, [1, 0, 0xFF0000FF])?;
     journal_record(
         rt,
-        b"whole play: closing record",
+        "whole play: closing record",
         journal,
         2,
-        0xFFFFFFFF,
-        2,
-        0x51,
+        [0xFFFFFFFF, 2, 0x51],
     )
 }
 
-fn undone(rt: &impl Print, surface: &mut [u32], journal: &[u8], used: u64) -> io::Result<()> {
-    let b = player::undo(surface, 2, 1, journal, used);
-    line::number(rt, b"undone: status", b.status as u64, 0)?;
-    line::number(rt, b"undone: pixels", b.number as u64, 2)?;
-    line::number(rt, b"undone: count in use", b.used, 0)?;
-    line::pixel(rt, b"undone: pixel 0", pixel_at(surface, 0), 0xFF000000)?;
-    line::pixel(rt, b"undone: pixel 1", pixel_at(surface, 1), 0xFF0000FF)
+fn undone(rt: &impl Print, surface: &mut [u32; 2], journal: &[u8], used: u64) -> io::Result<()> {
+    let mut left = used;
+    let [status, pixels] = numbers(player::undo(surface, 2, 1, journal, &mut left));
+    lines(
+        rt,
+        &[
+            ("undone: status", status, 0),
+            ("undone: pixels", pixels, 2),
+            ("undone: count in use", left, 0),
+        ],
+    )?;
+    lines(
+        rt,
+        &[
+            ("undone: pixel 0", Hex(surface[0]), Hex(0xFF000000)),
+            ("undone: pixel 1", Hex(surface[1]), Hex(0xFF0000FF)),
+        ],
+    )
 }
 
+// The three numbers of a journal record.
 fn journal_record(
     rt: &impl Print,
-    label: &[u8],
+    label: &str,
     journal: &[u8],
     i: usize,
-    x: u32,
-    y: u32,
-    old: u32,
+    should: [u32; 3],
 ) -> io::Result<()>
     requires { i < 4096 }
 {
     let at = i * journal::STRIDE;
-    line::pixel(rt, label, words::read_u32(journal, at), x)?;
-    line::pixel(rt, label, words::read_u32(journal, at + 4), y)?;
-    line::pixel(rt, label, words::read_u32(journal, at + 8), old)
+    let got = [
+        words::read::<4>(journal, at),
+        words::read::<4>(journal, at + 4),
+        words::read::<4>(journal, at + 8),
+    ];
+    three(rt, label, &got, &should)
+}
+
+// A line with the same label for each of three pixels or numbers.
+fn three(rt: &impl Print, label: &str, got: &[u32; 3], should: &[u32; 3]) -> io::Result<()> {
+    for (x, y) in got.iter().zip(should) {
+        line(rt, label.as_bytes(), Hex(*x), Hex(*y))?;
+    }
+    Ok(())
 }
 
 // "24 gives 14, 35 gives 2": nothing is drawn.
 pub fn refused(rt: &impl Print) -> io::Result<()> {
     let r = whole_record();
     let mut short = [0u8; 24];
-    not_taken(rt, b"whole play, 24 bytes: status", &r, &mut short, 14)?;
+    not_taken(rt, "whole play, 24 bytes: status", &r, &mut short, 14)?;
     let mut odd = [0u8; 35];
-    not_taken(rt, b"whole play, 35 bytes: status", &r, &mut odd, 2)
+    not_taken(rt, "whole play, 35 bytes: status", &r, &mut odd, 2)
 }
 
 fn not_taken(
     rt: &impl Print,
-    label: &[u8],
+    label: &str,
     r: &[u8],
     journal: &mut [u8],
-    status: u32,
+    should: u64,
 ) -> io::Result<()> {
     let mut surface = [0xFF000000u32, 0xFF0000FFu32];
-    let a = player::play(&mut surface, 2, 1, journal, 0, r, everywhere());
-    line::number(rt, label, a.status as u64, status as u64)?;
-    line::number(rt, b"refused: pixels", a.number as u64, 0)?;
-    line::pixel(rt, b"refused: pixel 0", surface[0], 0xFF000000)?;
-    line::pixel(rt, b"refused: pixel 1", surface[1], 0xFF0000FF)
+    let answer = player::play(&mut surface, 2, 1, journal, &mut 0, r, everywhere());
+    let [status, pixels] = numbers(answer);
+    lines(
+        rt,
+        &[(label, status, should), ("refused: pixels", pixels, 0)],
+    )?;
+    lines(
+        rt,
+        &[
+            ("refused: pixel 0", Hex(surface[0]), Hex(0xFF000000)),
+            ("refused: pixel 1", Hex(surface[1]), Hex(0xFF0000FF)),
+        ],
+    )
 }
 
 // Plays on a surface of one row and shows its pixels.
 fn shown(
     rt: &impl Print,
-    label: &[u8],
+    label: &str,
     r: &[u8],
     surface: &mut [u32; 3],
-    first: u32,
-    second: u32,
-    third: u32,
+    should: [u32; 3],
 ) -> io::Result<()> {
     let mut journal = [0u8; 48];
-    let a = player::play(surface, 3, 1, &mut journal, 0, r, everywhere());
-    line::number(rt, label, a.status as u64, 0)?;
-    line::pixel(rt, label, surface[0], first)?;
-    line::pixel(rt, label, surface[1], second)?;
-    line::pixel(rt, label, surface[2], third)
+    let answer = player::play(surface, 3, 1, &mut journal, &mut 0, r, everywhere());
+    let [status, _] = numbers(answer);
+    line(rt, label.as_bytes(), status, 0)?;
+    three(rt, label, surface, &should)
 }
 
 // 0x72 with a source of one 32-bit pixel, on column 1.
 fn blend(
     rt: &impl Print,
-    label: &[u8],
+    label: &str,
     field: u32,
     source: u32,
     old: u32,
@@ -193,7 +232,7 @@ fn blend(
     header(&mut r, 108, 1, 32);
     words::store_u32(&mut r, 148, source);
     let mut surface = [old; 3];
-    shown(rt, label, &r, &mut surface, old, new, old)
+    shown(rt, label, &r, &mut surface, [old, new, old])
 }
 
 // Format 0: s 200, d 100, c 128 gives 150. Format 1: s 100, a 128, c 255, d 200 gives 200; its alpha, 128 over 200, gives 228.
@@ -201,7 +240,7 @@ fn blend(
 pub fn blends(rt: &impl Print) -> io::Result<()> {
     blend(
         rt,
-        b"0x72, format 0",
+        "0x72, format 0",
         0x00800000,
         0x00C8C8C8,
         0xFF646464,
@@ -209,7 +248,7 @@ pub fn blends(rt: &impl Print) -> io::Result<()> {
     )?;
     blend(
         rt,
-        b"0x72, format 1",
+        "0x72, format 1",
         0x01FF0000,
         0x80646464,
         0xC8C8C8C8,
@@ -217,7 +256,7 @@ pub fn blends(rt: &impl Print) -> io::Result<()> {
     )?;
     blend(
         rt,
-        b"0x72, format 1, colours above their alpha",
+        "0x72, format 1, colours above their alpha",
         0x01FF0000,
         0x00FF3201,
         0xC8FFC8FF,
@@ -248,24 +287,15 @@ pub fn masked(rt: &impl Print) -> io::Result<()> {
     let mut surface = [0xFF000000u32, 0x800000FFu32, 0x00FFFFFFu32];
     shown(
         rt,
-        b"0x4E, 0xF0 over 0xAA",
+        "0x4E, 0xF0 over 0xAA",
         &r,
         &mut surface,
-        0xFF112233,
-        0x800000FF,
-        0x00112233,
+        [0xFF112233, 0x800000FF, 0x00112233],
     )
 }
 
 // With a source of three 24-bit pixels, 0x0A0B0C, 0x010203 and 0x445566.
-fn with_source(
-    rt: &impl Print,
-    label: &[u8],
-    field: u32,
-    first: u32,
-    second: u32,
-    third: u32,
-) -> io::Result<()> {
+fn with_source(rt: &impl Print, label: &str, field: u32, should: [u32; 3]) -> io::Result<()> {
     let mut r = masked_record(field);
     parts(&mut r, 84, 180, 40, 12);
     header(&mut r, 180, 3, 24);
@@ -273,12 +303,12 @@ fn with_source(
     words::store_u32(&mut r, 224, 0x55660102);
     words::store_u32(&mut r, 228, 0x00000044);
     let mut surface = [0xFF000000u32, 0x800000FFu32, 0x00FFFFFFu32];
-    shown(rt, label, &r, &mut surface, first, second, third)
+    shown(rt, label, &r, &mut surface, should)
 }
 
 // Document 001's copy-or-keep: copied where the mask's bit is 1.
-fn copied_by(rt: &impl Print, label: &[u8], field: u32) -> io::Result<()> {
-    with_source(rt, label, field, 0xFF0A0B0C, 0x800000FF, 0x00445566)
+fn copied_by(rt: &impl Print, label: &str, field: u32) -> io::Result<()> {
+    with_source(rt, label, field, [0xFF0A0B0C, 0x800000FF, 0x00445566])
 }
 
 // wingdi.h: #define MAKEROP4(fore,back) (DWORD)((((back) << 8) & 0xFF000000) | (fore))
@@ -290,34 +320,31 @@ fn makerop4(fore: u32, back: u32) -> u32
 
 // SRCCOPY is 0x00CC0020; 0x00AA0029 leaves the target as it is.
 pub fn copied(rt: &impl Print) -> io::Result<()> {
-    copied_by(rt, b"0x4E, 0xCC over 0xAA", 0xAACC0000)?;
+    copied_by(rt, "0x4E, 0xCC over 0xAA", 0xAACC0000)?;
     let field = makerop4(0x00CC0020, 0x00AA0029);
-    line::pixel(rt, b"MAKEROP4(0x00CC0020, 0x00AA0029)", field, 0xAACC0020)?;
-    copied_by(rt, b"0x4E, MAKEROP4(0x00CC0020, 0x00AA0029)", field)
+    lines(
+        rt,
+        &[(
+            "MAKEROP4(0x00CC0020, 0x00AA0029)",
+            Hex(field),
+            Hex(0xAACC0020),
+        )],
+    )?;
+    copied_by(rt, "0x4E, MAKEROP4(0x00CC0020, 0x00AA0029)", field)
 }
 
 // 0xB8 looks at all three: the target where the source's bit is 1, the brush where it is 0. 0x66 is source xor target.
 pub fn picked(rt: &impl Print) -> io::Result<()> {
     with_source(
         rt,
-        b"0x4E, 0xB8 over 0x66",
+        "0x4E, 0xB8 over 0x66",
         0x66B80000,
-        0xFF112033,
-        0x800102FC,
-        0x00557777,
+        [0xFF112033, 0x800102FC, 0x00557777],
     )
 }
 
 // 0x51 with a source of two 24-bit pixels, 0x0A0B0C and 0x010203, on three columns: n 2, m 3 reads 0, 0, 1; mirrored 1, 1, 0.
-fn stretched(
-    rt: &impl Print,
-    label: &[u8],
-    x: u32,
-    cx: u32,
-    first: u32,
-    second: u32,
-    third: u32,
-) -> io::Result<()> {
+fn stretched(rt: &impl Print, label: &str, x: u32, cx: u32, should: [u32; 3]) -> io::Result<()> {
     let mut r = [0u8; 128];
     begin(&mut r, 0x51, 128);
     words::store_u32(&mut r, 24, x);
@@ -331,26 +358,22 @@ fn stretched(
     words::store_u32(&mut r, 120, 0x030A0B0C);
     words::store_u32(&mut r, 124, 0x00000102);
     let mut surface = [0xFF000000u32, 0x80FFFFFFu32, 0x00FFFFFFu32];
-    shown(rt, label, &r, &mut surface, first, second, third)
+    shown(rt, label, &r, &mut surface, should)
 }
 
 pub fn stretches(rt: &impl Print) -> io::Result<()> {
     stretched(
         rt,
-        b"0x51, 2 to 3",
+        "0x51, 2 to 3",
         0,
         3,
-        0xFF0A0B0C,
-        0x800A0B0C,
-        0x00010203,
+        [0xFF0A0B0C, 0x800A0B0C, 0x00010203],
     )?;
     stretched(
         rt,
-        b"0x51, 2 to 3, mirrored",
+        "0x51, 2 to 3, mirrored",
         3,
         0xFFFFFFFD,
-        0xFF010203,
-        0x80010203,
-        0x000A0B0C,
+        [0xFF010203, 0x80010203, 0x000A0B0C],
     )
 }

@@ -1,11 +1,6 @@
--- Each turn makes one call and leaves a state that the next can start from.
-use Rattle.std.proofs.Common.{length}
-use Rattle.replay.specs.Ready.{Ready}
+-- Each call leaves what is lent as long as it was.
+use Rattle.replay.specs.Lengths.{SameLent, SameInput, SameOutput}
 use Rattle.replay.proofs.turns.all.Given as goal
 
-abbrev pub invariant-loop-turns : goal.invariant-loop-turns
-invariant-loop-turns g l =
-    Ready l.t (length l.initial.surface) (length l.initial.journal) (length l.initial.input) (length l.initial.output)
-
-abbrev pub decreases-loop-turns : goal.decreases-loop-turns
-decreases-loop-turns g l = l.turns
+abbrev pub invariant-loop : goal.invariant-loop
+invariant-loop g l = SameLent l.initial.lent l.lent × SameInput l.initial.input l.input × SameOutput l.initial.output l.output

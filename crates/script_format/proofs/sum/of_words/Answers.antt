@@ -1,17 +1,16 @@
--- Each turn adds one number's four bytes to the sum.
-use mathlib.Core.Path.{sym, ap, ◌∙◌}
-use Prim.Native.Nat.{ℕ, ◌+◌}
-use native.Mathlib.Omega.{arith}
-use lib.ListN.{drop}
-use Rattle.script_format.specs.Sum.{sum_from, bytes_of}
-use Rattle.script_format.proofs.SumLaws.{word_more, word_end}
+-- Folding number by number is folding over all of their bytes.
+use Rattle.std.proofs.Common.{rules, ◌≡◌, List, [], ◌∷◌, ℕ, refl, sym, ◌∙◌}
+use Rattle.std.proofs.lemmas.List.Sums.{fold-append}
+use Rattle.std.specs.Prelude.{fold}
+use Rattle.words.specs.Bytes.{bytes32}
+use Rattle.script_format.specs.Sum.{start, step, sum_from, bytes_of}
 use Rattle.script_format.proofs.sum.of_words.Goals as goal
 
-pub loop-k-preserved : goal.loop-k-preserved
-loop-k-preserved c =
-    let s = c.args.s.now in
-    let more = ap (λ (h : ℕ). sum_from h (bytes_of (drop (c.loop-k.k + 1) s))) c.next_word-h.ensures in
-    (omega arith, more ∙ word_more _ _ _ c.loop-k-test.true ∙ c.loop-k.invariant.1)
+by_number : (h : ℕ) (vs : List ℕ) → fold (λ g v. sum_from g (bytes32 v)) h vs ≡ sum_from h (bytes_of vs)
+by_number h [] = refl
+by_number h (v ∷ vs) = by_number (sum_from h (bytes32 v)) vs ∙ sym (fold-append step h (bytes32 v) (bytes_of vs))
 
 pub returns : goal.returns
-returns c = sym (word_end _ _ _ c.loop-k-test.false) ∙ c.loop-k.invariant.1
+returns c =
+    let e : c.fold.result ≡ fold (λ g v. sum_from g (bytes32 v)) start c.args.s.now = search rules in
+    e ∙ by_number start c.args.s.now
