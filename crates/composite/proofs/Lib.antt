@@ -1,2 +1,2 @@
--- What the painting loops' proofs cite.
+-- What the painting loop's proofs cite.
 pub mod TurnLaws

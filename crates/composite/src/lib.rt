@@ -26,7 +26,7 @@ pub struct Start {
     pub y: u32,
 }
 
-// Draws a row: a pixel for each of the source pixels and mask bits.
+// Draws a row: a pixel for each of the source pixels and mask bits, two slices, since only one rule reads the bits.
 pub fn row(
     surface: &mut [u32],
     width: u32,

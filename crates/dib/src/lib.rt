@@ -19,8 +19,9 @@ pub struct Masks {
     pub alpha: u32,
 }
 
-// The header's numbers as written: width and height in two's complement. A mask is 0 where the header has none. Compression is no enum,
-// since `header_of` gives every number that a header can hold, and a reading hands it out.
+// The header's numbers as written: width and height in two's complement. A mask is 0 where the header has none. Depth and compression are
+// no enums, and a header that passed status 8 is no type of its own, since `header_of` gives every number that a header can hold, and a reading
+// hands them out: `bits_needed` and `bad_masks` ask by `bad_fields`.
 #[derive(Clone, Copy)]
 pub struct Header {
     pub size: u32,

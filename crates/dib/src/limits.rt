@@ -1,4 +1,5 @@
-// The tests of statuses 8 and 9, each on the numbers it is about.
+// The tests of statuses 8 and 9, each on the numbers it is about. Where `judge` and `memory` test a side alike, the limit and the definition are
+// others.
 ghost use Rattle.std.specs.Prelude.{◌≡◌, ◌^◌, ◌≤◌, min};
 ghost use Rattle.pixel.specs.Position.{is_depth};
 ghost use Rattle.dib.specs.HeaderStatus.{bad_size, bad_compression, bad_extent, bad_colours, overlap as overlap_of, bad_channels, bad_overlaps};

@@ -159,6 +159,3 @@ module _ (s : List ℕ) (p : Plan) (i : ℕ) (rule : Rule) (colours bits : List 
 
 pub row_inside : (w h y : ℕ) → y < h → y * w + w ≤ h * w
 row_inside w h y a = omega (arith, mul-le-mul_left w a, mul-suc w y, mul_comm w y, mul_comm w h)
-
-pub records_inside : (at n i m k : ℕ) → i < m → k ≡ at + n * i → k + n ≤ at + n * m
-records_inside at n i m k a e = omega (arith, mul-le-mul_left n a, mul-suc n i)

@@ -2,7 +2,7 @@
 // and mask bits, and one loop saves the old pixels and writes the new ones. The buffers hold one row.
 #![tactic(auto)]
 
-ghost use Rattle.std.specs.Prelude.{◌≡◌, ◌+◌, ◌≤◌, length};
+ghost use Rattle.std.specs.Prelude.{◌≡◌, ◌+◌, ◌≤◌, None, length};
 ghost use Rattle.std.specs.Option.{ForSome};
 ghost use Rattle.words.specs.Bytes.{magnitude32};
 ghost use Rattle.judge.specs.Good.{Good};
@@ -35,7 +35,9 @@ fn map_columns(s: &[u8], p: Plan, source_columns: &mut [u32], mask_columns: &mut
     requires record { Good (length s.now) p.record
         × (p.target.columns.index + p.target.columns.count ≤ magnitude32 p.record.cx) }
     requires as_many { (length source_columns.old ≡ p.target.columns.count) × (length mask_columns.old ≡ p.target.columns.count) }
-    ensures { Mapped p source_columns.new mask_columns.new }
+    ensures mapped { Mapped p source_columns.new mask_columns.new }
+    ensures absent { (p.record.source ≡ None → source_columns.new ≡ source_columns.old)
+        × (p.record.mask ≡ None → mask_columns.new ≡ mask_columns.old) }
 {
     let r = p.record;
     let index = p.target.columns.index as u32;
@@ -58,7 +60,8 @@ fn source_masks(r: Record) -> Masks
 }
 
 // Draws the rows of the clipped target, each through the buffers, which are as long as a row. They come one by one: behind a struct that lends
-// them the places written in the loop did not prove.
+// them, the places written in the loop did not prove. `Ready` is a clause and no type: `clipped`, named in docs/, asks it of a plain plan, and only
+// of one with columns.
 fn rows(
     surface: &mut [u32],
     journal: &mut [u8],

@@ -8,7 +8,7 @@ use crate::{Fields, Offsets, PictureFields};
 fn is_present(bmi: u32, bmi_len: u32, bits: u32, bits_len: u32) -> bool
     ensures { result ≡ is_present bmi bmi_len bits bits_len }
 {
-    !((bmi == 0) & (bmi_len == 0) & (bits == 0) & (bits_len == 0))
+    [bmi, bmi_len, bits, bits_len] != [0; 4]
 }
 
 // The picture whose fields stand there, if it is present.

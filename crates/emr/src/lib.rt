@@ -17,8 +17,9 @@ pub enum Form {
     Rop,
 }
 
-// The offsets of a type's fields; 0 where it has no such field, as the table `row_of` has it, which takes numbers and no Option. A type that
-// does not stretch has its target's extent for its source's.
+// The offsets of a type's fields; 0 where it has no such field, as the table `row_of` has it, whose numbers `IsRow` promises. A type that
+// does not stretch has its target's extent for its source's. Functions that read by offsets ask by `Near` that they are small; no type says
+// so, since `status::frame` takes any.
 #[derive(Clone, Copy)]
 pub struct Offsets {
     pub extent: usize,
@@ -41,7 +42,7 @@ pub struct Row {
 }
 
 // XformSrc.
-#[derive(Clone, Copy)]
+#[derive(Clone, Copy, PartialEq)]
 pub struct Transform {
     pub m11: f32,
     pub m12: f32,
@@ -51,7 +52,8 @@ pub struct Transform {
     pub dy: f32,
 }
 
-// A picture's corner and usage, and where its header part and its bits part stand. The corner is in two's complement.
+// A picture's corner and usage, and where its header part and its bits part stand: by offset and length, and in no slice, as they are not yet
+// known to lie in the record. The corner is in two's complement.
 #[derive(Clone, Copy)]
 pub struct PictureFields {
     pub x: u32,
@@ -64,7 +66,7 @@ pub struct PictureFields {
 }
 
 // The fields of a record's fixed part: Bounds, target, operation, and source and mask where they are present. Signed ones are in two's
-// complement.
+// complement. The source's extent is there without a source too: a type that does not stretch has its target's.
 #[derive(Clone, Copy)]
 pub struct Fields {
     pub bounds: Rectangle,

@@ -37,7 +37,7 @@ fn fields_at(
     }
 }
 
-// A type's row; one of zeros where the type is not listed.
+// A type's row; one of zeros, and no None, where the type is not listed: `IsRow` promises a row of every type.
 #[tactic(auto, unfolding(crate::specs::Types::row_of))]
 pub fn of(kind: u32) -> Row
     ensures { IsRow kind result }

@@ -4,6 +4,15 @@ ghost use Rattle.emr.specs.Transform.{float32, transform_of, is_identity};
 
 use crate::Transform;
 
+const IDENTITY: Transform = Transform {
+    m11: 1.0,
+    m12: 0.0,
+    m21: 0.0,
+    m22: 1.0,
+    dx: 0.0,
+    dy: 0.0,
+};
+
 // A NaN's pattern is no float's bits to `from_bits`, so a NaN is made by a division.
 fn float(s: &[u8], at: usize) -> f32
     ensures { result ≡ float32 s.now at }
@@ -39,10 +48,5 @@ pub fn read(s: &[u8], at: usize) -> Transform
 pub fn is_identity(x: Transform) -> bool
     ensures { result ≡ is_identity x }
 {
-    (x.m11 == 1.0)
-        & (x.m12 == 0.0)
-        & (x.m21 == 0.0)
-        & (x.m22 == 1.0)
-        & (x.dx == 0.0)
-        & (x.dy == 0.0)
+    x == IDENTITY
 }

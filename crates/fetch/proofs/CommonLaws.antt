@@ -9,8 +9,7 @@ use Rattle.pixel.specs.Masks.{mask_shift, mask_of, channel_at}
 use Rattle.pixel.specs.Round.{round_div}
 use Rattle.pixel.specs.Widen.{widened}
 use Rattle.pixel.proofs.MaskLaws.{ones_of}
-use Rattle.sample.specs.Colour.{channel8, alpha_of, masked}
-use Rattle.fetch.specs.Fetched.{byte_masks}
+use Rattle.sample.specs.Colour.{channel8, alpha_of, byte_masks, masked}
 
 -- eight bits need no widening
 widened_8 : (v : ℕ) → widened 8 v ≡ v

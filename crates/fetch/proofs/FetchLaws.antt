@@ -3,17 +3,20 @@ use mathlib.Core.Path.{◌≡◌, refl}
 use mathlib.Core.Bool.{true, false, ◌&&◌}
 use mathlib.Core.Logic.{◌≢◌}
 use mathlib.Core.List.{List, []}
-use Prim.Native.Nat.{ℕ}
-use lib.Dec.{eqb, leb}
-use lib.ListN.{length}
-use borrow.Author.Tests.{eqb-true}
+use Prim.Native.Nat.{ℕ, ◌*◌}
+use lib.Dec.{eqb, leb, lit≤}
+use lib.ListN.{length, get_or}
+use native.Mathlib.Omega.{arith}
+use borrow.Author.Tests.{eqb-true, lt-leb}
+use Rattle.words.specs.Bytes.{le}
 use Rattle.words.proofs.ChoiceLaws.{and_both}
 use Rattle.words.proofs.FillLaws.{filled_by}
 use Rattle.pixel.specs.Position.{is_depth}
 use Rattle.pixel.proofs.PositionLaws.{on_depth}
 use Rattle.dib.specs.declared.Masks.{Masks}
-use Rattle.sample.specs.Colour.{shown}
-use Rattle.fetch.specs.Fetched.{fetched, Fetches}
+use Rattle.sample.specs.Stored.{stored}
+use Rattle.sample.specs.Colour.{masked, shown}
+use Rattle.fetch.specs.Fetched.{fetched, Fetches, Whole}
 
 -- what is left when the code has passed the other depths
 pub last_depth : (b : ℕ) → is_depth b ≡ true → b ≢ 1 → b ≢ 4 → b ≢ 8 → b ≢ 16 → b ≢ 24 → b ≡ 32
@@ -41,3 +44,19 @@ same_masks m k e =
     let blue = eqb-true m.blue k.blue b.0 in
     let alpha = eqb-true m.alpha k.alpha b.1 in
     λ i. record { red = red i; green = green i; blue = blue i; alpha = alpha i }
+
+pub two_bytes : Whole 2
+unfolding stored
+two_bytes = record { some = lit≤ tt; few = lit≤ tt; number = λ row column. refl }
+
+pub four_bytes : Whole 4
+unfolding stored
+four_bytes = record { some = lit≤ tt; few = lit≤ tt; number = λ row column. refl }
+
+-- whole bytes are shown by the masks alone
+pub whole_shown : (bytes : ℕ) (m : Masks) (line columns : List ℕ) (k : ℕ) → Whole bytes
+    → masked m (le bytes line (get_or columns k 0 * bytes)) ≡ fetched (bytes * 8) [] m line columns k
+unfolding fetched shown
+whole_shown bytes m line columns k w =
+    let above : leb (bytes * 8) 8 ≡ false = lt-leb (bytes * 8) 8 (omega (arith, w.some)) in
+    rw (above, w.number line (get_or columns k 0)) refl

@@ -8,9 +8,9 @@ use Rattle.dib.specs.declared.Header.{Header}
 use Rattle.dib.specs.Header.{has_masks}
 use Rattle.dib.specs.HeaderStatus.{bad_compression, bad_fields, bad_masks}
 use Rattle.dib.proofs.HeaderLaws.{sound}
-use Rattle.sample.specs.Colour.{masks_in}
+use Rattle.sample.specs.Colour.{byte_masks, masks_in}
 use Rattle.sample.proofs.AtLaws.{sampled}
-use Rattle.fetch.specs.Fetched.{Readable, byte_masks}
+use Rattle.fetch.specs.Fetched.{Readable}
 
 -- BI_BITFIELDS has 16 or 32 bits
 no_masks_lem : (compression : ℕ) → bad_compression compression 24 ≡ false → has_masks compression ≡ false

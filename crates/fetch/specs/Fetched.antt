@@ -1,10 +1,11 @@
 -- A row of source pixels: of each target column the pixel at its source column. Definitions only.
 use Rattle.std.specs.Prelude.{◌≡◌, true, List, ℕ, ◌+◌, ◌*◌, ◌≤◌, ◌<◌, length, get_or}
+use Rattle.words.specs.Bytes.{le}
 use Rattle.words.specs.Filled.{Filled}
 use Rattle.pixel.specs.Position.{is_depth}
 use Rattle.dib.specs.declared.Masks.{Masks}
 use Rattle.sample.specs.Stored.{stored}
-use Rattle.sample.specs.Colour.{Sampled, shown}
+use Rattle.sample.specs.Colour.{Sampled, byte_masks, shown}
 
 -- the pixel that column k of the row shows: `line` holds the source row's bytes, `columns` the source columns in the target's order
 unfoldable pub fetched : (bits : ℕ) (palette : List ℕ) → Masks → (line columns : List ℕ) (k : ℕ) → ℕ
@@ -25,9 +26,11 @@ pub record InRow (bits : ℕ) (line columns out : List ℕ) : Type 0 where
   pub long : length columns ≤ length out
   pub reach : InLine bits line columns
 
--- the layout that most sources have: a byte for each channel
-abbrev pub byte_masks : (alpha : ℕ) → Masks
-byte_masks alpha = record { red = 0xFF0000; green = 0xFF00; blue = 0xFF; alpha = alpha }
+-- pixels of so many whole bytes, which no palette is looked up for
+pub record Whole (bytes : ℕ) : Type 0 where
+  pub some : 1 < bytes
+  pub few : bytes ≤ 4
+  pub number : (row : List ℕ) (column : ℕ) → stored (bytes * 8) row column ≡ le bytes row (column * bytes)
 
 -- pixels that can be read. BI_BITFIELDS exists at 16 and 32 bits only, so at 24 the masks are BI_RGB's
 pub record Readable (bits : ℕ) (m : Masks) : Type 0 where

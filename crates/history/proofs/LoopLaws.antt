@@ -3,7 +3,7 @@ use mathlib.Core.Path.{◌≡◌, refl, sym, ap, ◌∙◌}
 use mathlib.Core.Bool.{Bool, true, false, not, ◌&&◌, true≢false}
 use mathlib.Core.List.{List, ◌∷◌}
 use Prim.Native.Nat.{ℕ, zero, suc, ◌+◌, ◌-◌, ◌*◌, ◌≤◌, ◌<◌}
-use native.Mathlib.Nat.{not-suc-le-zero, sub-zero}
+use native.Mathlib.Nat.{not-suc-le-zero}
 use native.Mathlib.Omega.{arith}
 use lib.ListN.{length}
 use lib.Seq.{sets}
@@ -60,17 +60,6 @@ pub record Running (w h : ℕ) (l : List ℕ) (n : ℕ) (s₀ j₀ a₀ s j a : 
   pub room : length a ≡ length a₀
 
 module _ (w h : ℕ) (l : List ℕ) (n : ℕ) (s₀ j₀ a₀ : List ℕ) where
-  pub running_begins : well_formed l 4 n ≡ true → Running w h l n s₀ j₀ a₀ s₀ j₀ a₀ 0 4 0
-  running_begins f = record {
-    below = omega arith;
-    formed = ap (well_formed l 4) (sub-zero n) ∙ f;
-    memory_is = ap (λ (k : ℕ). memory_after w h (calls_from l 4 k) (memory s₀ j₀ 0)) (sub-zero n);
-    answers_are = ap (λ (k : ℕ). sets a₀ 0 (numbers_of (answers w h (calls_from l 4 k) (memory s₀ j₀ 0)))) (sub-zero n);
-    pixels = refl;
-    size = refl;
-    room = refl;
-  }
-
   module _ (s j a : List ℕ) (u at i : ℕ) (r : Running w h l n s₀ j₀ a₀ s j a u at i) where
     module _ (t : i < n) where
       pub running_stands : call_length l at ≡ 0 → ⊥

@@ -22,10 +22,6 @@ first_stands : (b later : ℕ) → (b ≡ 0 → ⊥) → or_else b later ≡ b
 first_stands zero later z = absurd (z refl)
 first_stands (suc b) later z = refl
 
-not_not : (f : Bool) → not f ≡ false → f ≡ true
-not_not true g = refl
-not_not false g = sym g
-
 module _ (w h : ℕ) (s j l a : List ℕ) where
   by_status : (k : ℕ) → run_status w h s j l (length a) ≡ k → settle_run k w h s j l a ≡ run_of w h s j l a
   unfolding run_of
@@ -57,9 +53,6 @@ module _ (w h : ℕ) (s j l a : List ℕ) where
       run_malformed g = refuses 29 (λ z. omega arith) (status_is true g)
 
       module _ (g : not f ≡ false) where
-        pub run_formed : well_formed l 4 n ≡ true
-        run_formed = sym ef ∙ not_not f g
-
         pub run_full : length a < n * 2 → ran 30 0 0 s j a ≡ run_of w h s j l a
         run_full t =
             refuses 30 (λ z. omega arith) (status_is false g ∙ ap (λ (x : Bool). given 30 x 0) (lt-ltb (length a) (n * 2) t))

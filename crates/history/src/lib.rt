@@ -1,5 +1,6 @@
 // Runs a list of plays and undos that is given as bytes, each with the real call, and answers what each call answered. What is lent comes one
-// by one through to the player, whose clauses name each.
+// by one through to the player, whose clauses name each. A call is found by the list and its place in it, as `call_length` and `call_at` have it,
+// and its two answers go to their place among all, of which `Stepped` speaks.
 #![tactic(auto)]
 
 ghost use Rattle.std.specs.Prelude.{◌≡◌, true, ◌+◌, ◌*◌, ◌≤◌, ◌<◌, length};
@@ -47,7 +48,7 @@ fn call_length(list: &[u8], at: usize) -> Option<usize>
 fn padded(n: u32) -> usize
     ensures { (result ≡ padded_of n) × (result < 8589934592) }
 {
-    (n as usize + 3) / 4 * 4
+    (n as usize).next_multiple_of(4)
 }
 
 // Do n calls stand from a place on, and nothing behind them?

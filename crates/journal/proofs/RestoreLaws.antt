@@ -23,11 +23,6 @@ pub record Tested (w h : ℕ) (j : List ℕ) (from n i : ℕ) : Type 0 where
   pub same : any_off w h (entries_at j i (from + n - i)) ≡ any_off w h (entries_at j from n)
 
 module _ (w h : ℕ) (j : List ℕ) (from n : ℕ) where
-  pub tested_none : Tested w h j from n from
-  tested_none =
-      let e : from + n - from ≡ n = omega arith in
-      record { below = omega arith; same = ap (λ (k : ℕ). any_off w h (entries_at j from k)) e }
-
   module _ (i : ℕ) (p : Entry) (r : Tested w h j from n i) (l : i < from + n) (e : p ≡ entry_at j i) where
     record_decides : any_off w h (entries_at j from n) ≡ (leb w p.first || leb h p.second || any_off w h (entries_at j (i + 1) (from + n - (i + 1))))
     unfolding any_off entries_at
@@ -91,11 +86,6 @@ pub record Restoring (w : ℕ) (j : List ℕ) (from n : ℕ) (s₀ s : List ℕ)
   pub pixels : length s ≡ length s₀
 
 module _ (w : ℕ) (j : List ℕ) (from n : ℕ) (s₀ : List ℕ) where
-  pub restoring_none : Restoring w j from n s₀ s₀ (from + n)
-  restoring_none =
-      let e : from + n - from ≡ n = omega arith in
-      record { within = omega arith; same = ap (λ (k : ℕ). restored w (entries_at j from k) s₀) e; pixels = refl }
-
   module _ (s : List ℕ) (i : ℕ) (r : Restoring w j from n s₀ s i) where
     module _ (p : Entry) (l : from < i) (e : p ≡ entry_at j (i - 1)) where
       -- the pixel that a turn restores is on the surface

@@ -1,10 +1,10 @@
 -- A row of pixels, each saved and drawn in its turn, and rows one after the other: what is left to do, done from here, gives what is
 -- wanted. It holds for every rule of what a pixel becomes. Assumes nothing.
-use mathlib.Core.Path.{◌≡◌, refl, sym, ap, ◌∙◌, subst}
+use mathlib.Core.Path.{◌≡◌, sym, ap, ◌∙◌}
 use mathlib.Core.List.{List, [], ◌∷◌, ◌++◌}
 use Prim.Native.Nat.{ℕ, suc, ◌+◌, ◌-◌, ◌*◌, ◌≤◌, ◌<◌}
 use native.Mathlib.Omega.{arith}
-use native.Mathlib.Nat.{add-zero, sub-zero, mul-add}
+use native.Mathlib.Nat.{mul-add}
 use lib.ListN.{length, get_or, set, length-set}
 use lib.Seq.{sets, length-sets}
 use Rattle.words.proofs.ListLaws.{sets_append}
@@ -20,9 +20,6 @@ pub record Leads (w : ℕ) (f : Paint) (ps₀ : List Point) (i₀ : ℕ) (s₀ j
   pub journal : sets j (i * stride) (bytes_of (saved w f ps s)) ≡ sets j₀ (i₀ * stride) (bytes_of (saved w f ps₀ s₀))
   pub pixels : length s ≡ length s₀
   pub size : length j ≡ length j₀
-
-pub leads_none : (w : ℕ) (f : Paint) (i : ℕ) (ps : List Point) (s j : List ℕ) → Leads w f ps i s j ps i s j
-leads_none w f i ps s j = record { surface = refl; journal = refl; pixels = refl; size = refl }
 
 -- one pixel
 module _ (w : ℕ) (f : Paint) (i₀ : ℕ) (ps₀ ps : List Point) (s₀ j₀ s j : List ℕ) (x y i : ℕ) where
@@ -78,13 +75,6 @@ pub record Row (w : ℕ) (f : Paint) (at x n y : ℕ) (s₀ j₀ s j : List ℕ)
   pub leads : Leads w f (row x n y) at s₀ j₀ (row (x + i) (n - i) y) (at + i) s j
 
 module _ (w : ℕ) (f : Paint) (at x n y : ℕ) (s₀ j₀ : List ℕ) where
-  pub row_begins : Row w f at x n y s₀ j₀ s₀ j₀ 0
-  row_begins = record {
-    below = omega arith;
-    leads = subst (λ (ps : List Point). Leads w f (row x n y) at s₀ j₀ ps (at + 0) s₀ j₀) (λ t. row (sym (add-zero x) t) (sym (sub-zero n) t) y)
-        (subst (λ (i : ℕ). Leads w f (row x n y) at s₀ j₀ (row x n y) i s₀ j₀) (sym (add-zero at)) (leads_none w f at (row x n y) s₀ j₀));
-  }
-
   -- a turn of the code, which finds the pixel at y * w + x + i
   pub row_turns : (s j j1 : List ℕ) (i v : ℕ) → Row w f at x n y s₀ j₀ s j i → i < n → v ≡ f (get_or s (y * w + x + i) 0) (x + i) y
       → j1 ≡ sets j ((at + i) * stride) (entry_bytes (x + i) y (get_or s (y * w + x + i) 0))
@@ -118,14 +108,6 @@ pub record Rows (w : ℕ) (f : Paint) (at x n y m : ℕ) (s₀ j₀ s j : List �
   pub leads : Leads w f (block x n y m) at s₀ j₀ (block x n (y + i) (m - i)) k s j
 
 module _ (w : ℕ) (f : Paint) (at x n y m : ℕ) (s₀ j₀ : List ℕ) where
-  pub rows_begin : Rows w f at x n y m s₀ j₀ s₀ j₀ at 0
-  rows_begin = record {
-    below = omega arith;
-    next_record = omega arith;
-    leads = subst (λ (ps : List Point). Leads w f (block x n y m) at s₀ j₀ ps at s₀ j₀) (λ t. block x n (sym (add-zero y) t) (sym (sub-zero m) t))
-        (leads_none w f at (block x n y m) s₀ j₀);
-  }
-
   pub rows_turn : (s j s1 j1 : List ℕ) (k i : ℕ) → Rows w f at x n y m s₀ j₀ s j k i → i < m → s1 ≡ drawn w f (row x n (y + i)) s
       → j1 ≡ sets j (k * stride) (bytes_of (saved w f (row x n (y + i)) s)) → Rows w f at x n y m s₀ j₀ s1 j1 (k + n) (i + 1)
   rows_turn s j s1 j1 k i r h es ej = record {

@@ -1,4 +1,5 @@
-// Writing the journal's records, reading them, and restoring pixels from them.
+// Writing the journal's records, reading them, and restoring pixels from them. The journal is a plain slice, as it is lent; each function asks
+// that the records that it goes through lie in it. Whether a record is a pixel's or a closing one is told by its first number, as the bytes have it.
 #![tactic(auto)]
 
 ghost use Rattle.std.specs.Prelude.{◌≡◌, false, ◌+◌, ◌*◌, ◌≤◌, length};
@@ -12,7 +13,7 @@ pub const STRIDE: usize = 12;
 // The first number of a closing record.
 pub const MARK: u32 = 0xFFFF_FFFF;
 
-// Writes record i: three numbers.
+// Writes record i: three numbers and no Entry, since callers have them apart.
 pub fn put(journal: &mut [u8], i: usize, first: u32, second: u32, third: u32)
     requires { (i + 1) * stride ≤ length journal.old }
     ensures { journal.new ≡ sets journal.old (i * stride) (entry_bytes first second third) }

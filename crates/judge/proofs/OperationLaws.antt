@@ -26,6 +26,3 @@ module _ (form : Form) (field : ℕ) where
 module _ (a : Action) where
   pub reads_masked : (f b : ℕ) {x y : Bool} → a ≡ Masked f b → x ≡ needs_source f → y ≡ needs_source b → (x || y) ≡ reads_source a
   reads_masked f b e p q = ap₂ ◌||◌ p q ∙ sym (ap reads_source e)
-
-  pub reads_raster : (op : ℕ) {x : Bool} → a ≡ Raster op → x ≡ needs_source op → x ≡ reads_source a
-  reads_raster op e p = p ∙ sym (ap reads_source e)

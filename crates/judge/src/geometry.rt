@@ -1,4 +1,5 @@
-// Status 12.
+// Status 12. Whether a source is present is a bool beside its extent, which the fields have without a source too, as in the definition
+// `bad_signs`. A place and an extent are four numbers, as the record and `region::clipped_target` have them.
 ghost use Rattle.std.specs.Prelude.{◌≡◌};
 ghost use Rattle.judge.specs.Geometry.{bad_side, far as far_of, sticks_out, bad_target, bad_signs, bad_source, bad_corner};
 

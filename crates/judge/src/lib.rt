@@ -24,7 +24,7 @@ pub enum Action {
 }
 
 // A picture of a record: its corner in two's complement, its header, and where its parts stand: by offset and length, as a reading hands them
-// to C, and in no slice.
+// to C, and in no slice. No PictureFields in it, since their usage was judged and is not kept.
 #[derive(Clone, Copy)]
 pub struct Picture {
     pub x: u32,
@@ -172,12 +172,10 @@ pub fn check(s: &[u8]) -> Result<Record, Refusal>
     Ok(r)
 }
 
-// The record's status as a number, as `status_of` gives it: the first of 3 to 6, 21 and 7 to 13 that applies, or 0.
+// The record's status as a number, as `status_of` gives it: the first of 3 to 6, 21 and 7 to 13 that applies, or 0. The program `vectors`
+// prints it.
 pub fn status(s: &[u8]) -> u32
     ensures { (result ≡ status_in (check_of s.now)) × (result ≡ status_of s.now) }
 {
-    match check(s) {
-        Ok(_) => 0,
-        Err(refusal) => u32::from(refusal),
-    }
+    words::refusal::status(&check(s))
 }

@@ -10,8 +10,7 @@ use emr::Form;
 pub fn decoded(form: Form, field: u32) -> Action
     ensures { result ≡ action_of form field }
 {
-    let low = (field / 65536 % 256) as u8;
-    let high = (field / 16777216) as u8;
+    let [_, _, low, high] = field.to_le_bytes();
     match form {
         Form::Blend => {
             if high == 1 {
@@ -39,16 +38,15 @@ fn has_alpha(h: Header) -> bool
 fn bad_blend(field: u32, h: Header) -> bool
     ensures { result ≡ bad_blend field h }
 {
-    let format = field / 16777216;
-    (field % 256 != 0) | (1 < format) | (format == 1) & !has_alpha(h)
+    let [operation, _, _, format] = field.to_le_bytes();
+    (operation != 0) | (1 < format) | (format == 1) & !has_alpha(h)
 }
 
 fn reads_source(a: Action) -> bool
     ensures { result ≡ reads_source a }
 {
     match a {
-        Action::Blend0(_) => true,
-        Action::Blend1(_) => true,
+        Action::Blend0(_) | Action::Blend1(_) => true,
         Action::Masked(fore, back) => pixel::raster::needs_source(fore)
             | pixel::raster::needs_source(back),
         Action::Raster(op) => pixel::raster::needs_source(op),

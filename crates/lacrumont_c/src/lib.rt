@@ -1,5 +1,5 @@
 // The library lacrumont for C: each entry point calls the function of its name there, and states its clause again.
-// include/lacrumont.h documents them.
+// include/lacrumont.h documents them. A static library can't be used by a crate, so the two are apart.
 #![tactic(auto)]
 
 ghost use Rattle.std.specs.Prelude.{◌≡◌};

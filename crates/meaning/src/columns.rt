@@ -7,6 +7,7 @@ ghost use Rattle.meaning.specs.Sampling.{source_start, mirrored, source_column};
 
 use words::fill::by_place;
 
+// As a target's start in `region`, but no source's corner lies below 0.
 #[tactic(auto, unfolding(crate::specs::Sampling::source_start))]
 fn source_start(x: u32, source: u32) -> u32
     ensures { (result ≡ source_start x source) × (result ≤ x) }

@@ -1,4 +1,4 @@
-// The lent surface and journal: statuses 1 and 2.
+// The lent surface and journal: statuses 1 and 2, of numbers alone, as `limits` is: sides and pixels of the one, bytes and count of the other.
 #![tactic(auto)]
 
 ghost use Rattle.std.specs.Prelude.{◌≡◌};

@@ -1,4 +1,5 @@
-// Where things lie in pictures.
+// Where things lie in pictures. Extents are plain numbers that are asked not to be 0, as headers and records hold them: a NonZeroU32 would be
+// made of each by a test that cannot fail.
 ghost use Rattle.std.specs.Prelude.{◌≡◌, ◌≤◌, ◌<◌};
 ghost use Rattle.pixel.specs.Position.{row_length, source_position, remainder as remainder_of, mask_pixel};
 
@@ -7,7 +8,7 @@ ghost use Rattle.pixel.specs.Position.{row_length, source_position, remainder as
 pub fn row_length(width: u32, bits: u32) -> u64
     ensures { result ≡ row_length width bits }
 {
-    (u64::from(width) * u64::from(bits) + 31) / 32 * 4
+    (u64::from(width) * u64::from(bits)).div_ceil(32) * 4
 }
 
 // The source column (or row) that column (or row) i of a target of extent m reads, of n.

@@ -14,19 +14,17 @@ ghost use Rattle.player.specs.Outcome.{outcome_of, pixels_of};
 use draw::Plan;
 use judge::Record;
 use meaning::Terms;
-use words::refusal::Refusal;
+use words::refusal::{Refusal, status};
 
 // A call's answer as two numbers: its status, and its number of pixels, 0 where it is refused.
 pub fn numbers(answer: Result<u32, Refusal>) -> (u32, u32)
     ensures { (result.0 ≡ answer_of answer) × (result.1 ≡ pixels_of answer) }
 {
-    match answer {
-        Ok(pixels) => (0, pixels),
-        Err(refusal) => (u32::from(refusal), 0),
-    }
+    (status(&answer), answer.unwrap_or(0))
 }
 
 // Plays a record that was accepted, on memory that passed statuses 1 and 2; answers the pixels drawn.
+#[tactic(auto, using(crate::proofs::PlayLaws::pixels_few))]
 fn accepted(
     surface: &mut [u32],
     width: u32,

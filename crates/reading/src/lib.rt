@@ -21,7 +21,9 @@ pub struct Layout {
 
 // What a reading answers, but for the bytes: the status; where the header part and the view's bytes stand in the record; where the colours
 // that the palette shows stand in the header part, and how many they are; width, rows and layout. Where there is no picture, all is 0 in
-// the 1-bit bottom-up layout. The status is a number and no Err, since a refused reading has the rest too (`reading_of`, `lacrumont_read`).
+// the 1-bit bottom-up layout. The status is a number and no Err, since a refused reading has the rest too, and parts are places and lengths, since
+// `lacrumont_read` hands them out (`reading_of`). Its three later calls ask by `Within` that the reading is of the same record: no type of its own
+// could say of which.
 #[derive(Clone, Copy)]
 pub struct Reading {
     pub status: u32,
@@ -90,7 +92,7 @@ fn wanted(mask: bool, r: Record) -> Option<Picture>
     if mask { r.mask } else { r.source }
 }
 
-// The reading for the source, or for the mask.
+// The reading for the source, or for the mask, which is asked for by a bool, as `reading_of` has it.
 pub fn read(s: &[u8], mask: bool) -> Reading
     ensures { IsReading s.now mask result }
 {

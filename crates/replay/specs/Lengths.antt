@@ -1,15 +1,20 @@
 -- What was lent keeps its length, also where a script is broken off. Definitions only.
-use Rattle.std.specs.Prelude.{◌≡◌, length}
+use Rattle.std.specs.Prelude.{◌≡◌, List, ℕ, length}
 use Rattle.script_calls.specs.declared.Lent.{Lent}
 use Rattle.replay.specs.declared.input.Input.{Input}
 use Rattle.replay.specs.declared.output.Output.{Output}
+
+abbrev pub SameSizes : (surface journal surface_after journal_after : List ℕ) → Type 0
+SameSizes surface journal surface_after journal_after =
+    (length surface_after ≡ length surface) × (length journal_after ≡ length journal)
 
 abbrev pub SameLent : Lent → Lent → Type 0
 SameLent before after =
     (length after.surface.now ≡ length before.surface.now) × (length after.journal.now ≡ length before.journal.now)
 
 abbrev pub SameInput : {R : Type 0} → Input R → Input R → Type 0
-SameInput before after = length after.buffer.now ≡ length before.buffer.now
+SameInput before after =
+    (after.buffer.ghost_name ≡ before.buffer.ghost_name) × (length after.buffer.now ≡ length before.buffer.now)
 
 abbrev pub SameOutput : {P : Type 0} → Output P → Output P → Type 0
 SameOutput before after = length after.text.buffer.now ≡ length before.text.buffer.now

@@ -1,5 +1,6 @@
 -- What a buffer holds of the script and was not consumed yet. Definitions only.
-use Rattle.std.specs.Prelude.{◌≡◌, ℕ, List, length, take, slice_range}
+use Rattle.std.specs.Prelude.{◌≡◌, ℕ, List, ◌++◌, length, take, slice_range}
+use Rattle.words.specs.Bytes.{bytes32}
 use Rattle.replay.specs.declared.input.Input.{Input}
 
 abbrev pub unread : {R : Type 0} → Input R → List ℕ
@@ -8,3 +9,7 @@ unread i = slice_range i.buffer.now i.at i.end
 -- what was held and not consumed still comes first, and more may stand behind it
 abbrev pub StaysInFront : {R : Type 0} → Input R → Input R → Type 0
 StaysInFront before after = take (length (unread before)) (unread after) ≡ unread before
+
+-- the number's four bytes, and behind them what is unread now, are what was unread before, and more may stand behind it
+abbrev pub TakesNumber : {R : Type 0} → Input R → Input R → ℕ → Type 0
+TakesNumber before after n = take (length (unread before)) (bytes32 n ++ unread after) ≡ unread before

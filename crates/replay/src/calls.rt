@@ -5,7 +5,7 @@ use crate::failure::Failure;
 use crate::frame::Frame;
 use crate::opcode::Opcode;
 use crate::output::Output;
-use script_calls::Lent;
+use script_calls::{Lent, Loan};
 use std::ops::ControlFlow;
 use words::refusal::Refusal;
 
@@ -20,7 +20,7 @@ fn end(f: &Frame) -> Result<(), Failure> {
 // The numbers of a play's or an undo's line: status, pixels, and the records in use.
 fn numbers(answer: Result<u32, Refusal>, lent: &Lent) -> [u64; 3] {
     let (status, pixels) = player::numbers(answer);
-    [u64::from(status), u64::from(pixels), lent.used]
+    [u64::from(status), u64::from(pixels), lent.loan.used]
 }
 
 fn read<P: Print>(f: &Frame, output: &mut Output<P>) -> Result<(), Failure>
@@ -47,10 +47,13 @@ fn lend(f: &Frame, lent: &mut Lent) -> Result<(), Failure>
     if lent.journal.len() < bytes {
         return Err(Failure::Fault);
     }
-    lent.width = words::read::<4>(f.call, 4);
-    lent.height = words::read::<4>(f.call, 8);
-    lent.pixels = pixels;
-    lent.bytes = bytes;
+    lent.loan = Loan {
+        width: words::read::<4>(f.call, 4),
+        height: words::read::<4>(f.call, 8),
+        pixels,
+        bytes,
+        used: lent.loan.used,
+    };
     Ok(())
 }
 
@@ -58,7 +61,7 @@ fn lend(f: &Frame, lent: &mut Lent) -> Result<(), Failure>
 fn count(f: &Frame, lent: &mut Lent)
     ensures { SameLent lent.old lent.new }
 {
-    lent.used = u64::from(words::read::<4>(f.call, 4));
+    lent.loan.used = u64::from(words::read::<4>(f.call, 4));
 }
 
 // Four bytes of the journal.

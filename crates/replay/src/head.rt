@@ -1,36 +1,27 @@
 // A script from its head to its last line.
 ghost use Rattle.std.specs.Prelude.{◌≡◌, ◌≤◌, length, IfOk, OnErr};
-ghost use Rattle.replay.specs.Lengths.{SameInput, SameOutput};
+ghost use Rattle.replay.specs.Lengths.{SameInput, SameOutput, SameSizes};
 
 use crate::failure::Failure;
 use crate::input::Input;
 use crate::output::Output;
 use crate::turns;
-use script_calls::Lent;
+use script_calls::{Lent, Loan};
 use std::io;
 use std::io::Read;
 
 const MARK: u32 = 0x3143524F;
 
-// What the head lends the first call: all there is.
-#[derive(Clone, Copy)]
-struct Head {
-    width: u32,
-    height: u32,
-    pixels: usize,
-    bytes: usize,
-    used: u64,
-}
-
-// The head. The lengths of surface and journal are its limits. The number after the mark is passed over.
+// The head, which lends the first call all there is. The lengths of surface and journal are its limits. The number after the mark is
+// passed over.
 fn start<R: Read>(
     input: &mut Input<R>,
     surface: &mut [u32],
     journal: &mut [u8],
-) -> Result<Head, Failure>
+) -> Result<Loan, Failure>
     ensures input { SameInput input.old input.new }
-    ensures ok { IfOk result (λ h. (h.pixels ≤ length surface.old) × (h.bytes ≤ length journal.old)) }
-    ensures err { OnErr result ((length surface.new ≡ length surface.old) × (length journal.new ≡ length journal.old)) }
+    ensures ok { IfOk result (λ l. (l.pixels ≤ length surface.old) × (l.bytes ≤ length journal.old)) }
+    ensures err { OnErr result (SameSizes surface.old journal.old surface.new journal.new) }
 {
     if input.number()? != MARK {
         return Err(Failure::Fault);
@@ -50,7 +41,7 @@ fn start<R: Read>(
         return Err(Failure::Fault);
     }
     script_format::fill::all(&mut journal[..bytes], seed);
-    Ok(Head {
+    Ok(Loan {
         width,
         height,
         pixels,
@@ -76,17 +67,13 @@ fn calls_and_sums<P: Print, R: Read>(
     journal: &mut [u8],
 ) -> Result<(), Failure>
     ensures streams { SameInput input.old input.new × SameOutput output.old output.new }
-    ensures err { OnErr result ((length surface.new ≡ length surface.old) × (length journal.new ≡ length journal.old)) }
+    ensures err { OnErr result (SameSizes surface.old journal.old surface.new journal.new) }
 {
-    let head = start(input, surface, journal)?;
+    let loan = start(input, surface, journal)?;
     let mut lent = Lent {
-        surface: &mut surface[..head.pixels],
-        journal: &mut journal[..head.bytes],
-        width: head.width,
-        height: head.height,
-        pixels: head.pixels,
-        bytes: head.bytes,
-        used: head.used,
+        surface: &mut surface[..loan.pixels],
+        journal: &mut journal[..loan.bytes],
+        loan,
     };
     turns::all(input, output, &mut lent)?;
     sums(&lent, output)?;
@@ -101,7 +88,7 @@ pub fn script<P: Print, R: Read>(
     journal: &mut [u8],
 ) -> io::Result<()>
     ensures streams { SameInput input.old input.new × SameOutput output.old output.new }
-    ensures err { OnErr result ((length surface.new ≡ length surface.old) × (length journal.new ≡ length journal.old)) }
+    ensures err { OnErr result (SameSizes surface.old journal.old surface.new journal.new) }
 {
     match calls_and_sums(input, output, surface, journal) {
         Ok(()) => {}

@@ -1,13 +1,13 @@
 // The script, read front to back through a buffer.
-ghost use Rattle.std.specs.Prelude.{◌≡◌, ◌+◌, ◌≤◌, length, IfOk};
+ghost use Rattle.std.specs.Prelude.{◌≡◌, ◌+◌, ◌≤◌, false, [], length, drop, IfOk};
 
 use crate::failure::Failure;
 use script_input::read_full;
 use std::io;
 use std::io::Read;
 
-// The buffer's bytes from `at` to `end` are read and not yet consumed. Where the input has ended, nothing stands behind them. The
-// program keeps to fixed memory, which std's BufReader does not.
+// The buffer's bytes from `at` to `end` are read and not yet consumed. That the input has ended is a flag of its own, since the bytes do not
+// say whether more come. The program keeps to fixed memory, which std's BufReader does not.
 #[derive(Drop)]
 pub struct Input<'a, R> {
     reader: &'a mut R,
@@ -21,9 +21,13 @@ pub struct Input<'a, R> {
 
 impl<'a, R: Read> Input<'a, R> {
     ghost use Rattle.replay.specs.Lengths.{SameInput};
-    ghost use Rattle.replay.specs.Unread.{unread, StaysInFront};
+    ghost use Rattle.replay.specs.Unread.{unread, StaysInFront, TakesNumber};
 
-    pub fn new(reader: &'a mut R, buffer: &'a mut [u8]) -> Input<'a, R> {
+    pub fn new(reader: &'a mut R, buffer: &'a mut [u8]) -> Input<'a, R>
+        ensures lent { (result.buffer.ghost_name ≡ buffer.entry.ghost_name) × (result.buffer.now ≡ buffer.old) }
+        ensures unread { unread result ≡ [] }
+        ensures not_ended { result.has_ended ≡ false }
+    {
         Input {
             reader,
             buffer,
@@ -42,7 +46,8 @@ impl<'a, R: Read> Input<'a, R> {
 
     // Passes over some bytes, or all that the buffer holds.
     pub fn consume(&mut self, count: usize)
-        ensures { SameInput self.old self.new }
+        ensures unread { unread self.new ≡ drop count (unread self.old) }
+        ensures size { SameInput self.old self.new }
     {
         let held = self.end - self.at;
         self.at += count.min(held);
@@ -76,7 +81,8 @@ impl<'a, R: Read> Input<'a, R> {
 
     // The next number.
     pub fn number(&mut self) -> Result<u32, Failure>
-        ensures { SameInput self.old self.new }
+        ensures number { IfOk result (TakesNumber self.old self.new) }
+        ensures size { SameInput self.old self.new }
     {
         self.ahead(4)?;
         let bytes = self.bytes();

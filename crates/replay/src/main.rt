@@ -1,6 +1,7 @@
 // Makes the calls that a script lists, and prints a line for each. The script comes as standard input. Any player that reads
 // the same script must print the same text. Where a read or a write fails, the program ends with that error: of what was lent only
-// the lengths are known then, and what waits to be printed is lost.
+// the lengths are known then, and what waits to be printed is lost. That lengths stay is said by `SameLent`, `SameInput`, `SameOutput` and
+// `SameSizes`: facts of before and after, which no type holds.
 #![tactic(auto)]
 
 mod calls;

@@ -1,6 +1,6 @@
 // The calls that a script can make.
-ghost use Rattle.std.specs.Prelude.{◌≤◌};
-ghost use Rattle.replay.specs.Opcode.{Decodes};
+ghost use Rattle.std.specs.Prelude.{◌≡◌, ◌+◌, ◌*◌, ◌≤◌};
+ghost use Rattle.replay.specs.Opcode.{Decodes, arguments, has_data};
 
 #[derive(Clone, Copy, Debug, PartialEq, Eq)]
 pub enum Opcode {
@@ -39,7 +39,7 @@ impl TryFrom<u32> for Opcode {
 impl Opcode {
     // How many bytes the opcode and its arguments take, before any byte data.
     pub fn before_data(self) -> usize
-        ensures { result ≤ 28 }
+        ensures { (result ≡ 4 * (1 + arguments self)) × (result ≤ 28) }
     {
         match self {
             Opcode::End => 4,
@@ -53,7 +53,9 @@ impl Opcode {
     }
 
     // Does byte data stand behind the arguments?
-    pub fn has_data(self) -> bool {
+    pub fn has_data(self) -> bool
+        ensures { result ≡ has_data self }
+    {
         matches!(self, Opcode::Play | Opcode::Read)
     }
 }

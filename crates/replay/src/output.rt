@@ -21,6 +21,7 @@ impl<'a, P: Print> Output<'a, P> {
 
     pub fn new(rt: &'a P, buffer: &'a mut [u8]) -> Output<'a, P>
         requires { 21 ≤ length buffer.old }
+        ensures { (result.text.len ≡ 0) × (result.text.buffer.now ≡ buffer.old) }
     {
         Output {
             rt,

@@ -11,6 +11,10 @@ use Rattle.dib.specs.Header.{has_masks}
 unfoldable pub channel8 : (mask n : ℕ) → ℕ
 channel8 mask n = widened (mask_width mask) (channel_at (mask_width mask) (mask_shift mask) n)
 
+-- the layout that most pictures have: a byte for each channel
+abbrev pub byte_masks : (alpha : ℕ) → Masks
+byte_masks alpha = record { red = 0xFF0000; green = 0xFF00; blue = 0xFF; alpha = alpha }
+
 -- "BI_RGB 16: blue, green, red of five bits, from the lowest up. BI_RGB 32: blue, green, red, and a high byte that is alpha only
 -- under alpha format 1." "24 bits: blue, green, red."
 abbrev pub rgb_masks : (bits : ℕ) (format1 : Bool) → Masks

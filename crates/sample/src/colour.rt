@@ -2,9 +2,21 @@
 ghost use Rattle.std.specs.Prelude.{◌≡◌, ◌≤◌};
 ghost use Rattle.pixel.specs.Masks.{mask_width};
 ghost use Rattle.pixel.specs.Widen.{Widens};
-ghost use Rattle.sample.specs.Colour.{Channel, Sampled, channel8 as channel8_of, rgb_masks, masks_in, alpha_of, masked as masked_of};
+ghost use Rattle.sample.specs.Colour.{Channel, Sampled, channel8 as channel8_of, byte_masks, rgb_masks, masks_in, alpha_of, masked as masked_of};
 
 use dib::{Header, Masks};
+
+// The masks of a byte for each channel: those of BI_RGB's 24 and 32 bits.
+pub fn byte_masks(alpha: u32) -> Masks
+    ensures { result ≡ byte_masks alpha }
+{
+    Masks {
+        red: 0xFF0000,
+        green: 0xFF00,
+        blue: 0xFF,
+        alpha,
+    }
+}
 
 // The masks of BI_RGB.
 fn rgb_masks(bits: u32, format1: bool) -> Masks
@@ -19,12 +31,7 @@ fn rgb_masks(bits: u32, format1: bool) -> Masks
             alpha,
         }
     } else {
-        Masks {
-            red: 0xFF0000,
-            green: 0xFF00,
-            blue: 0xFF,
-            alpha,
-        }
+        byte_masks(alpha)
     }
 }
 

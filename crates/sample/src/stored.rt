@@ -1,4 +1,5 @@
-// A row's bytes, and the number that they hold for a pixel smaller than a byte.
+// A row's bytes, and the number that they hold for a pixel smaller than a byte: a function for each of the definitions `stored1` and `stored4`,
+// which take the high bit and the high half by other sums.
 ghost use Rattle.std.specs.Prelude.{◌≡◌, ◌+◌, ◌*◌, ◌≤◌, ◌<◌, length};
 ghost use Rattle.sample.specs.Stored.{stored1, stored4, stored_row, row_bytes};
 

@@ -3,7 +3,7 @@ use Rattle.std.specs.Prelude.{◌≡◌}
 use Rattle.script_calls.specs.declared.Lent.{Lent}
 
 pub record SameLoan (before after : Lent) : Type 0 where
-  pub width : after.width ≡ before.width
-  pub height : after.height ≡ before.height
-  pub pixels : after.pixels ≡ before.pixels
-  pub bytes : after.bytes ≡ before.bytes
+  pub width : after.loan.width ≡ before.loan.width
+  pub height : after.loan.height ≡ before.loan.height
+  pub pixels : after.loan.pixels ≡ before.loan.pixels
+  pub bytes : after.loan.bytes ≡ before.loan.bytes

@@ -7,19 +7,25 @@ ghost use Rattle.script_calls.specs.Asked.{read_line};
 use script_format::sum::{of_bytes, of_words};
 use words::refusal::Refusal;
 
-// A script's surface and journal, and how much of them the next calls are lent: the sides, so many pixels and journal bytes, and
-// the journal's records in use.
-#[derive(Drop)]
-pub struct Lent<'a> {
-    pub surface: &'a mut [u32],
-    pub journal: &'a mut [u8],
+// What the next calls are lent: the sides, how much of surface and journal, and the records in use.
+#[derive(Clone, Copy)]
+pub struct Loan {
     pub width: u32,
     pub height: u32,
     pub pixels: usize,
     pub bytes: usize,
     pub used: u64,
-    pub ghost pixels_within: { pixels ≤ length surface.now },
-    pub ghost bytes_within: { bytes ≤ length journal.now },
+}
+
+// A script's surface and journal, and what the next calls are lent of them. Both are held whole, since a later call may be lent more
+// again.
+#[derive(Drop)]
+pub struct Lent<'a> {
+    pub surface: &'a mut [u32],
+    pub journal: &'a mut [u8],
+    pub loan: Loan,
+    pub ghost pixels_within: { loan.pixels ≤ length surface.now },
+    pub ghost bytes_within: { loan.bytes ≤ length journal.now },
 }
 
 impl<'a> Lent<'a> {
@@ -33,22 +39,22 @@ impl<'a> Lent<'a> {
     // A play of record s. Behind the opcode of the call stand the clip's four numbers, the brush and a tag, which is not looked at.
     pub fn play(&mut self, s: &[u8], call: &[u8]) -> Result<u32, Refusal>
         ensures outcome { outcome_of result
-            (memory_with (take self.old.pixels self.new.surface.now) (take self.old.bytes self.new.journal.now) self.new.used)
-            ≡ play_outcome self.old.width self.old.height (play_asked s.now call.now)
-            (memory_with (take self.old.pixels self.old.surface.now) (take self.old.bytes self.old.journal.now) self.old.used) }
-        ensures rest { (Rest self.old.pixels self.old.surface.now self.new.surface.now)
-            × (Rest self.old.bytes self.old.journal.now self.new.journal.now) }
+            (memory_with (take self.old.loan.pixels self.new.surface.now) (take self.old.loan.bytes self.new.journal.now) self.new.loan.used)
+            ≡ play_outcome self.old.loan.width self.old.loan.height (play_asked s.now call.now)
+            (memory_with (take self.old.loan.pixels self.old.surface.now) (take self.old.loan.bytes self.old.journal.now) self.old.loan.used) }
+        ensures rest { (Rest self.old.loan.pixels self.old.surface.now self.new.surface.now)
+            × (Rest self.old.loan.bytes self.old.journal.now self.new.journal.now) }
         ensures loan { SameLoan self.old self.new }
     {
         let terms = meaning::read_terms(call, 4);
-        let pixels = self.pixels;
-        let bytes = self.bytes;
+        let pixels = self.loan.pixels;
+        let bytes = self.loan.bytes;
         player::play(
             &mut self.surface[..pixels],
-            self.width,
-            self.height,
+            self.loan.width,
+            self.loan.height,
             &mut self.journal[..bytes],
-            &mut self.used,
+            &mut self.loan.used,
             s,
             terms,
         )
@@ -57,27 +63,27 @@ impl<'a> Lent<'a> {
     // An undo of the last play.
     pub fn undo(&mut self) -> Result<u32, Refusal>
         ensures outcome { outcome_of result
-            (memory_with (take self.old.pixels self.new.surface.now) (take self.old.bytes self.new.journal.now) self.new.used)
-            ≡ undo_of self.old.width self.old.height
-            (memory_with (take self.old.pixels self.old.surface.now) (take self.old.bytes self.old.journal.now) self.old.used) }
-        ensures rest { Rest self.old.pixels self.old.surface.now self.new.surface.now }
+            (memory_with (take self.old.loan.pixels self.new.surface.now) (take self.old.loan.bytes self.new.journal.now) self.new.loan.used)
+            ≡ undo_of self.old.loan.width self.old.loan.height
+            (memory_with (take self.old.loan.pixels self.old.surface.now) (take self.old.loan.bytes self.old.journal.now) self.old.loan.used) }
+        ensures rest { Rest self.old.loan.pixels self.old.surface.now self.new.surface.now }
         ensures journal { self.new.journal.now ≡ self.old.journal.now }
         ensures loan { SameLoan self.old self.new }
     {
-        let pixels = self.pixels;
-        let bytes = self.bytes;
+        let pixels = self.loan.pixels;
+        let bytes = self.loan.bytes;
         let journal = &mut self.journal[..bytes];
         player::undo(
             &mut self.surface[..pixels],
-            self.width,
-            self.height,
+            self.loan.width,
+            self.loan.height,
             journal,
-            &mut self.used,
+            &mut self.loan.used,
         )
     }
 }
 
-// A reading of record s, as the numbers of its line.
+// A reading of record s, as the numbers of its line; asked for as `view::read` is.
 pub fn read(s: &[u8], mask: bool) -> [u64; 15]
     ensures { result ≡ read_line s.now mask }
 {

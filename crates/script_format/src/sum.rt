@@ -22,14 +22,14 @@ fn next_word(h: u64, v: u32) -> u64
     next(next(next(next(h, a), b), c), d)
 }
 
-// The sum of the bytes. Apart from the next one: a fold over either kind of item would take the step, which is all that they say.
+// The sum of the bytes. It and `of_words` are a line each; one function over both would have to be told how an item is summed.
 pub fn of_bytes(s: &[u8]) -> u64
     ensures { result ≡ sum_of s.now }
 {
     s.iter().fold(START, |h, b| next(h, *b))
 }
 
-// The sum of the numbers' bytes. A line each: one function over both would be told how an item is summed.
+// The sum of the numbers' bytes.
 pub fn of_words(s: &[u32]) -> u64
     ensures { result ≡ sum_of (bytes_of s.now) }
 {

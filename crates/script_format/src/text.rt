@@ -45,12 +45,12 @@ impl<'a> Text<'a> {
         ensures bytes { self.new.buffer.now ≡ sets self.old.buffer.now self.old.len s.now }
         ensures size { length self.new.buffer.now ≡ length self.old.buffer.now }
     {
-        let end = self.len + s.len();
-        self.buffer[self.len..end].copy_from_slice(s);
-        self.len = end;
+        words::copy(self.buffer, self.len, s);
+        self.len += s.len();
     }
 
     // The number's decimal digits.
+    // By `io::decimal`, which says what digits it gives and cannot fail: `write!` would answer an error for want of room, which is ruled out here.
     pub fn decimal(&mut self, n: u64)
         requires { self.old.len + 20 ≤ length self.old.buffer.now }
         ensures printed { Printed n self.old.len self.new.len self.old.buffer.now self.new.buffer.now }

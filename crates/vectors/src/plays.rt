@@ -6,7 +6,6 @@ use crate::line::{Hex, line, lines};
 use meaning::Terms;
 use region::Rectangle;
 use std::io;
-use words::refusal::Refusal;
 
 // A clip that cuts nothing, and document 01's brush.
 fn everywhere() -> Terms {
@@ -77,26 +76,20 @@ pub fn whole(rt: &impl Print) -> io::Result<()> {
         &r,
         everywhere(),
     );
-    let [status, pixels] = numbers(answer);
+    let (status, pixels) = player::numbers(answer);
     lines(
         rt,
         &[
             ("whole play, 36 bytes: status", status, 0),
             ("whole play: pixels", pixels, 2),
-            ("whole play: count in use", used, 3),
         ],
     )?;
+    line(rt, b"whole play: count in use", used, 3)?;
     played(rt, &surface, &journal)?;
     undone(rt, &mut surface, &journal, used)
 }
 
-// An answer's status and its number of pixels.
-fn numbers(answer: Result<u32, Refusal>) -> [u64; 2] {
-    let (status, pixels) = player::numbers(answer);
-    [u64::from(status), u64::from(pixels)]
-}
-
-fn played(rt: &impl Print, surface: &[u32; 2], journal: &[u8]) -> io::Result<()> {
+fn played(rt: &impl Print, surface: &[u32; 2], journal: &[u8; 36]) -> io::Result<()> {
     lines(
         rt,
         &[
@@ -117,15 +110,13 @@ fn played(rt: &impl Print, surface: &[u32; 2], journal: &[u8]) -> io::Result<()>
 
 fn undone(rt: &impl Print, surface: &mut [u32; 2], journal: &[u8], used: u64) -> io::Result<()> {
     let mut left = used;
-    let [status, pixels] = numbers(player::undo(surface, 2, 1, journal, &mut left));
+    let answer = player::undo(surface, 2, 1, journal, &mut left);
+    let (status, pixels) = player::numbers(answer);
     lines(
         rt,
-        &[
-            ("undone: status", status, 0),
-            ("undone: pixels", pixels, 2),
-            ("undone: count in use", left, 0),
-        ],
+        &[("undone: status", status, 0), ("undone: pixels", pixels, 2)],
     )?;
+    line(rt, b"undone: count in use", left, 0)?;
     lines(
         rt,
         &[
@@ -135,23 +126,18 @@ fn undone(rt: &impl Print, surface: &mut [u32; 2], journal: &[u8], used: u64) ->
     )
 }
 
-// The three numbers of a journal record.
+// The three numbers of record i. The journal holds three records.
 fn journal_record(
     rt: &impl Print,
     label: &str,
-    journal: &[u8],
+    journal: &[u8; 36],
     i: usize,
     should: [u32; 3],
 ) -> io::Result<()>
-    requires { i < 4096 }
+    requires { i < 3 }
 {
-    let at = i * journal::STRIDE;
-    let got = [
-        words::read::<4>(journal, at),
-        words::read::<4>(journal, at + 4),
-        words::read::<4>(journal, at + 8),
-    ];
-    three(rt, label, &got, &should)
+    let got = journal::load(journal, i);
+    three(rt, label, &[got.first, got.second, got.third], &should)
 }
 
 // A line with the same label for each of three pixels or numbers.
@@ -176,11 +162,11 @@ fn not_taken(
     label: &str,
     r: &[u8],
     journal: &mut [u8],
-    should: u64,
+    should: u32,
 ) -> io::Result<()> {
     let mut surface = [0xFF000000u32, 0xFF0000FFu32];
     let answer = player::play(&mut surface, 2, 1, journal, &mut 0, r, everywhere());
-    let [status, pixels] = numbers(answer);
+    let (status, pixels) = player::numbers(answer);
     lines(
         rt,
         &[(label, status, should), ("refused: pixels", pixels, 0)],
@@ -204,7 +190,7 @@ fn shown(
 ) -> io::Result<()> {
     let mut journal = [0u8; 48];
     let answer = player::play(surface, 3, 1, &mut journal, &mut 0, r, everywhere());
-    let [status, _] = numbers(answer);
+    let status = words::refusal::status(&answer);
     line(rt, label.as_bytes(), status, 0)?;
     three(rt, label, surface, &should)
 }

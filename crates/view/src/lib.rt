@@ -24,7 +24,7 @@ pub struct Whole<'a> {
     pub palette: [u32; 256],
 }
 
-// The reading of the source, or of the mask.
+// The reading of the source, or of the mask, asked for as `reading::read` is.
 pub fn read<'a>(s: &'a [u8], mask: bool) -> Whole<'a>
     ensures { IsWhole s.entry mask result }
 {

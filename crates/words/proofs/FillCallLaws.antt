@@ -1,5 +1,6 @@
 -- What a call of words::fill leaves is a filled list. Assumes nothing.
-use Rattle.std.proofs.Common.{◌≡◌, ℕ, ◌≤◌, ◌<◌, List, ◌++◌, length, get_or, take, drop, arith}
+use Rattle.std.proofs.Common.{◌≡◌, sym, ◌∙◌, ℕ, ◌≤◌, ◌<◌, List, ◌++◌, length, get_or, take, drop, arith}
+use Rattle.std.proofs.lemmas.List.{get_or_past}
 use Rattle.std.proofs.lemmas.Grind.{common_steps}
 use Rattle.words.specs.Filled.{Filled}
 
@@ -16,6 +17,15 @@ module _ (f : ℕ → ℕ) (d₀ : List ℕ) (n : ℕ) (front : List ℕ) (h : n
 
       at_back : (k : ℕ) → n ≤ k → get_or (front ++ drop n d₀) k 0 ≡ get_or d₀ k 0
       at_back k p = grind (arith, common_steps)
+
+-- `by_place`, in a whole list: behind its end both read as 0
+pub filled_whole : (f : ℕ → ℕ) (d₀ d : List ℕ) → length d ≡ length d₀ → ((k : ℕ) → k < length d₀ → get_or d k 0 ≡ f k)
+    → Filled f d₀ (length d₀) d
+filled_whole f d₀ d long front = record {
+  long = long;
+  front = front;
+  back = λ k h. get_or_past d k 0 (omega (arith, long)) ∙ sym (get_or_past d₀ k 0 h);
+}
 
 -- `mapped`
 pub filled_mapped : (f : ℕ → ℕ) (d₀ d : List ℕ) (n : ℕ) → length d ≡ length d₀ → ((k e : ℕ) → n ≤ k → get_or d k e ≡ get_or d₀ k e)

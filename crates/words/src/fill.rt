@@ -7,8 +7,8 @@ pub fn by_place<T: Copy, F: Fn(usize) -> T>(out: &mut [T], f: F)
     ensures long { length out.new ≡ length out.old }
     ensures each { (k : ℕ) (d : T) → k < length out.old → F.post f k (slice_index_or out.new k d) }
 {
-    for k in 0..out.len() {
-        out[k] = f(k);
+    for (k, x) in out.iter_mut().enumerate() {
+        *x = f(k);
     }
 }
 
@@ -21,7 +21,7 @@ pub fn mapped<S: Copy, T: Copy, F: Fn(S) -> T>(from: &[S], out: &mut [T], f: F)
     ensures front { (k : ℕ) (c : S) (d : T) → k < length from.now → F.post f (slice_index_or from.now k c) (slice_index_or out.new k d) }
     ensures back { (k : ℕ) (d : T) → length from.now ≤ k → slice_index_or out.new k d ≡ slice_index_or out.old k d }
 {
-    for k in 0..from.len() {
-        out[k] = f(from[k]);
+    for (k, c) in from.iter().enumerate() {
+        out[k] = f(*c);
     }
 }

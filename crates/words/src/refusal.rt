@@ -35,7 +35,17 @@ impl From<Refusal> for u32 {
     }
 }
 
-// Of two results the refusal with the lower number, if there is one.
+// The status of a result, which is 0 where it is a success.
+pub fn status<T>(answer: &Result<T, Refusal>) -> u32
+    ensures { result ≡ answer_of answer.now }
+{
+    match answer {
+        Ok(_) => 0,
+        Err(refusal) => u32::from(*refusal),
+    }
+}
+
+// Of two results the refusal with the lower number, if there is one. The numbers are compared, as a derived order's `min` did not prove.
 pub fn lowest(a: Result<(), Refusal>, b: Result<(), Refusal>) -> Result<(), Refusal>
     ensures { answer_of result ≡ lowest_of (answer_of a) (answer_of b) }
 {

@@ -10,7 +10,7 @@ use Rattle.draw.proofs.rows.Goals as goal
 pub of_source-requires-clause-source_row : goal.of_source-requires-clause-source_row
 of_source-requires-clause-source_row c =
     let ready = c.requires.ready in
-    let inside = columns_inside c.args.p ready.good _ _ c.map_columns.ensures ready.column_numbers in
+    let inside = columns_inside c.args.p ready.good _ _ c.map_columns.ensures.mapped ready.column_numbers in
     record {
       good = ready.good;
       masks = c.source_masks-masks.ensures;
@@ -22,14 +22,14 @@ of_source-requires-clause-source_row c =
 pub of_mask-requires-clause-mask_row : goal.of_mask-requires-clause-mask_row
 of_mask-requires-clause-mask_row c =
     let good = c.requires.ready.good in
-    record { good = good; inside = mask_columns_inside c.args.p good _ _ c.map_columns.ensures }
+    record { good = good; inside = mask_columns_inside c.args.p good _ _ c.map_columns.ensures.mapped }
 
 pub loop-k-preserved : goal.loop-k-preserved
 loop-k-preserved c =
     let p = c.args.p in
     let s = c.args.s.now in
     let l = c.loop-k in
-    let mapped = c.map_columns.ensures in
+    let mapped = c.map_columns.ensures.mapped in
     let columns = c.map_columns.new.source_columns in
     let mask_columns = c.map_columns.new.mask_columns in
     let j = p.target.rows.index + l.k in

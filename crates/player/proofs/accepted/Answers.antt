@@ -2,25 +2,13 @@
 use native.Mathlib.Omega.{arith}
 use Rattle.memory.proofs.LimitLaws.{passed}
 use Rattle.draw.proofs.ReadyLaws.{ready}
-use Rattle.player.proofs.PlayLaws.{pixels_few, play_full, play_drawn}
+use Rattle.player.proofs.PlayLaws.{play_full, play_drawn}
 use Rattle.player.proofs.accepted.Goals as goal
-
-pub overflow_mul-pixels : goal.overflow_mul-pixels
-overflow_mul-pixels c =
-    let a = c.args in
-    let few = pixels_few a.width a.height _ _ a.used.now a.terms.clip a.rec _ c.requires.0 c.clipped_target-t.ensures in
-    omega (arith, few)
 
 pub overflow_sub-free : goal.overflow_sub-free
 overflow_sub-free c =
     let a = c.args in
     omega (arith, (passed a.width a.height _ _ a.used.now c.requires.0).enough)
-
-pub overflow_add-pixels : goal.overflow_add-pixels
-overflow_add-pixels c =
-    let a = c.args in
-    let few = pixels_few a.width a.height _ _ a.used.now a.terms.clip a.rec _ c.requires.0 c.clipped_target-t.ensures in
-    omega (arith, few)
 
 pub returns-then-free-pixels : goal.returns-then-free-pixels
 returns-then-free-pixels c =
@@ -35,18 +23,6 @@ clipped-requires c =
     let room = c.if-free-pixels.false in
     ready _ a.height a.terms.clip _ _ _ c.requires.1 c.clipped_target-t.ensures memory.wide.1 memory.high.1
     memory.pixels_are (omega (arith, memory.enough, room))
-
-pub overflow_cast-pixels : goal.overflow_cast-pixels
-overflow_cast-pixels c =
-    let a = c.args in
-    let few = pixels_few a.width a.height _ _ a.used.now a.terms.clip a.rec _ c.requires.0 c.clipped_target-t.ensures in
-    omega (arith, few)
-
-pub overflow_cast-result : goal.overflow_cast-result
-overflow_cast-result c =
-    let a = c.args in
-    let few = pixels_few a.width a.height _ _ a.used.now a.terms.clip a.rec _ c.requires.0 c.clipped_target-t.ensures in
-    omega (arith, few)
 
 pub returns : goal.returns
 returns c =

@@ -1,6 +1,6 @@
 -- Each place holds the column that its index reads.
 use Rattle.std.proofs.Common.{rules}
-use Rattle.meaning.proofs.ColumnLaws.{filled_whole}
+use Rattle.words.proofs.FillCallLaws.{filled_whole}
 use Rattle.meaning.proofs.columns.of_mask.Goals as goal
 
 pub returns : goal.returns

@@ -1,7 +1,6 @@
 -- The buffer is filled anew on the way, and stays as long as it was.
-use mathlib.Core.Path.{◌≡◌}
-use lib.ListN.{length}
+use Rattle.replay.specs.Lengths.{SameInput}
 use Rattle.replay.proofs.input.Input.numbers.Given as goal
 
 abbrev pub invariant-loop-x : goal.invariant-loop-x
-invariant-loop-x g l = length l.self.buffer.now ≡ length l.initial.self.buffer.now
+invariant-loop-x g l = SameInput l.initial.self l.self
