@@ -16,7 +16,7 @@ use Rattle.pixel.proofs.PositionLaws.{on_depth}
 use Rattle.dib.specs.declared.Masks.{Masks}
 use Rattle.sample.specs.Stored.{stored}
 use Rattle.sample.specs.Colour.{masked, shown}
-use Rattle.fetch.specs.Fetched.{fetched, Fetches, Whole}
+use Rattle.fetch.specs.Fetched.{fetched, Fetches, WholeBytes}
 
 -- what is left when the code has passed the other depths
 pub last_depth : (b : ℕ) → is_depth b ≡ true → b ≢ 1 → b ≢ 4 → b ≢ 8 → b ≢ 16 → b ≢ 24 → b ≡ 32
@@ -45,16 +45,17 @@ same_masks m k e =
     let alpha = eqb-true m.alpha k.alpha b.1 in
     λ i. record { red = red i; green = green i; blue = blue i; alpha = alpha i }
 
-pub two_bytes : Whole 2
+-- at 16 and at 32 bits the number is that of two and of four bytes, by the definition
+pub two_bytes : WholeBytes 2
 unfolding stored
 two_bytes = record { some = lit≤ tt; few = lit≤ tt; number = λ row column. refl }
 
-pub four_bytes : Whole 4
+pub four_bytes : WholeBytes 4
 unfolding stored
 four_bytes = record { some = lit≤ tt; few = lit≤ tt; number = λ row column. refl }
 
 -- whole bytes are shown by the masks alone
-pub whole_shown : (bytes : ℕ) (m : Masks) (line columns : List ℕ) (k : ℕ) → Whole bytes
+pub whole_shown : (bytes : ℕ) (m : Masks) (line columns : List ℕ) (k : ℕ) → WholeBytes bytes
     → masked m (le bytes line (get_or columns k 0 * bytes)) ≡ fetched (bytes * 8) [] m line columns k
 unfolding fetched shown
 whole_shown bytes m line columns k w =

@@ -26,8 +26,8 @@ pub record InRow (bits : ℕ) (line columns out : List ℕ) : Type 0 where
   pub long : length columns ≤ length out
   pub reach : InLine bits line columns
 
--- pixels of so many whole bytes, which no palette is looked up for
-pub record Whole (bytes : ℕ) : Type 0 where
+-- a pixel of two to four whole bytes, whose number is that of the bytes where it stands; no palette is looked up for it
+pub record WholeBytes (bytes : ℕ) : Type 0 where
   pub some : 1 < bytes
   pub few : bytes ≤ 4
   pub number : (row : List ℕ) (column : ℕ) → stored (bytes * 8) row column ≡ le bytes row (column * bytes)

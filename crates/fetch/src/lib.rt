@@ -7,14 +7,14 @@ ghost use Rattle.words.specs.Bytes.{le};
 ghost use Rattle.pixel.specs.Widen.{Widens};
 ghost use Rattle.sample.specs.At.{Colours};
 ghost use Rattle.sample.specs.Colour.{Sampled, masked as masked_of};
-ghost use Rattle.fetch.specs.Fetched.{fetched, Fetches, InRow, Readable, Whole};
+ghost use Rattle.fetch.specs.Fetched.{fetched, Fetches, InRow, Readable, WholeBytes};
 
 use dib::Masks;
 use sample::colour::byte_masks;
 use words::fill::mapped;
 
 // Fills the front of `out` with the source pixels of `columns`, from the bytes of their row. The palette, the masks, the line and the columns are
-// plain values with a clause each, and no types of their own, as `sample::palette::read`, `sample::colour::masks` and `picture::row` promise them.
+// plain values with a clause each, and no types of their own, as `sample::palette::read`, `sample::colour::masks` and `picture::row` hand them out.
 pub fn row(bits: u32, palette: &[u32; 256], m: Masks, line: &[u8], columns: &[u32], out: &mut [u32])
     requires readable { Readable bits m }
     requires in_row { InRow bits line.now columns.now out.old }
@@ -51,7 +51,7 @@ pub fn row(bits: u32, palette: &[u32; 256], m: Masks, line: &[u8], columns: &[u3
 // Pixels of N bytes, by any masks. A function of its own: with the table in an arm of its caller each row clears it, whatever its layout (a
 // play of 16 by 16 at 32 bits then took 1,910 ns for 1,370).
 fn masked<const N: usize>(m: Masks, line: &[u8], columns: &[u32], out: &mut [u32])
-    requires whole { Whole N }
+    requires whole { WholeBytes N }
     requires in_row { InRow (N * 8) line.now columns.now out.old }
     requires sampled { Sampled m }
     ensures { Fetches (N * 8) [] m line.now columns.now out.old out.new }

@@ -4,6 +4,7 @@ use Rattle.script_calls.specs.declared.Lent.{Lent}
 use Rattle.replay.specs.declared.input.Input.{Input}
 use Rattle.replay.specs.declared.output.Output.{Output}
 
+-- of a surface and a journal by themselves
 abbrev pub SameSizes : (surface journal surface_after journal_after : List ℕ) → Type 0
 SameSizes surface journal surface_after journal_after =
     (length surface_after ≡ length surface) × (length journal_after ≡ length journal)
@@ -12,6 +13,7 @@ abbrev pub SameLent : Lent → Lent → Type 0
 SameLent before after =
     (length after.surface.now ≡ length before.surface.now) × (length after.journal.now ≡ length before.journal.now)
 
+-- the same buffer still, and as long as it was
 abbrev pub SameInput : {R : Type 0} → Input R → Input R → Type 0
 SameInput before after =
     (after.buffer.ghost_name ≡ before.buffer.ghost_name) × (length after.buffer.now ≡ length before.buffer.now)

@@ -10,6 +10,6 @@ unread i = slice_range i.buffer.now i.at i.end
 abbrev pub StaysInFront : {R : Type 0} → Input R → Input R → Type 0
 StaysInFront before after = take (length (unread before)) (unread after) ≡ unread before
 
--- the number's four bytes, and behind them what is unread now, are what was unread before, and more may stand behind it
+-- the number's four bytes, with what is unread now behind them, begin with all that was unread before
 abbrev pub TakesNumber : {R : Type 0} → Input R → Input R → ℕ → Type 0
 TakesNumber before after n = take (length (unread before)) (bytes32 n ++ unread after) ≡ unread before

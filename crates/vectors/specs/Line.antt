@@ -2,7 +2,7 @@
 use Rattle.std.specs.Prelude.{ℕ, ◌-◌, List, ◌++◌, length, replicate, Bool, true, false, codes, Option, Some}
 use Rattle.std.specs.Fmt.{digits, ◌++?◌}
 
--- eight digits, as in "0x0000ff00"
+-- eight digits behind "0x", as in "0x0000ff00"; 48 is the digit 0
 abbrev pub hex_text : ℕ → List ℕ
 hex_text n = codes "0x" ++ (replicate (8 - length (digits 16 false n)) 48 ++ digits 16 false n)
 
