@@ -32,6 +32,11 @@ picture_at s corner usage parts =
 abbrev pub mask_at : (s : List ℕ) (mask : ℕ) → Option PictureFields
 mask_at s mask = cond (eqb mask 0) None (picture_at s mask (mask + 8) (mask + 12))
 
+-- a number of the mask, present or not, n bytes from its corner on; of a type that has no mask: 0
+abbrev pub mask_number : (s : List ℕ) (mask n : ℕ) → ℕ
+mask_number s mask n = cond (eqb mask 0) 0 (le32 s (mask + n))
+
+-- the corners and usages as written, of an absent picture too: "its usage and rectangle fields are then not looked at"
 unfoldable pub fields_at : List ℕ → Offsets → Fields
 fields_at s f = record {
   bounds = rectangle_at s 8;
@@ -41,7 +46,13 @@ fields_at s f = record {
   cy = le32 s (f.extent + 4);
   operation = le32 s f.operation;
   source = picture_at s f.corner f.usage f.parts;
+  x_src = le32 s f.corner;
+  y_src = le32 s (f.corner + 4);
+  usage_src = le32 s f.usage;
   cx_src = le32 s f.extent_src;
   cy_src = le32 s (f.extent_src + 4);
   mask = mask_at s f.mask;
+  x_mask = mask_number s f.mask 0;
+  y_mask = mask_number s f.mask 4;
+  usage_mask = mask_number s f.mask 8;
 }

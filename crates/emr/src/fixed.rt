@@ -1,7 +1,7 @@
 // A record's fixed part as fields.
 ghost use Rattle.std.specs.Prelude.{◌≡◌, ◌≤◌};
 ghost use Rattle.emr.specs.Types.{Near};
-ghost use Rattle.emr.specs.Fixed.{is_present, picture_at, mask_at, fields_at};
+ghost use Rattle.emr.specs.Fixed.{is_present, picture_at, mask_at, mask_number, fields_at};
 
 use crate::{Fields, Offsets, PictureFields};
 
@@ -45,6 +45,17 @@ fn mask_picture(s: &[u8], mask: usize) -> Option<PictureFields>
     picture(s, mask, mask + 8, mask + 12)
 }
 
+// A number of the mask, present or not, n bytes from its corner on; a type without a mask has 0.
+fn mask_number(s: &[u8], mask: usize, n: usize) -> u32
+    requires { (mask ≤ 116) × (n ≤ 8) }
+    ensures { result ≡ mask_number s.now mask n }
+{
+    if mask == 0 {
+        return 0;
+    }
+    words::read::<4>(s, mask + n)
+}
+
 // The fields of any record; a byte past its end reads as 0.
 #[tactic(auto, unfolding(crate::specs::Fixed::fields_at))]
 pub fn read(s: &[u8], at: Offsets) -> Fields
@@ -62,8 +73,14 @@ pub fn read(s: &[u8], at: Offsets) -> Fields
         cy: words::read::<4>(s, at.extent + 4),
         operation: words::read::<4>(s, at.operation),
         source,
+        x_src: words::read::<4>(s, at.corner),
+        y_src: words::read::<4>(s, at.corner + 4),
+        usage_src: words::read::<4>(s, at.usage),
         cx_src: words::read::<4>(s, at.extent_src),
         cy_src: words::read::<4>(s, at.extent_src + 4),
         mask,
+        x_mask: mask_number(s, at.mask, 0),
+        y_mask: mask_number(s, at.mask, 4),
+        usage_mask: mask_number(s, at.mask, 8),
     }
 }

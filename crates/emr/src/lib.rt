@@ -66,7 +66,9 @@ pub struct PictureFields {
 }
 
 // The fields of a record's fixed part: Bounds, target, operation, and source and mask where they are present. Signed ones are in two's
-// complement. The source's extent is there without a source too: a type that does not stretch has its target's.
+// complement. The source's extent is there without a source too: a type that does not stretch has its target's. So are the corners and usages
+// as written, of an absent picture too, of which document 01 says "its usage and rectangle fields are then not looked at"; a present picture
+// has its own as well. A mask's are 0 where the type has no mask.
 #[derive(Clone, Copy)]
 pub struct Fields {
     pub bounds: Rectangle,
@@ -76,7 +78,13 @@ pub struct Fields {
     pub cy: u32,
     pub operation: u32,
     pub source: Option<PictureFields>,
+    pub x_src: u32,
+    pub y_src: u32,
+    pub usage_src: u32,
     pub cx_src: u32,
     pub cy_src: u32,
     pub mask: Option<PictureFields>,
+    pub x_mask: u32,
+    pub y_mask: u32,
+    pub usage_mask: u32,
 }

@@ -24,6 +24,12 @@ last_depth b h n1 n4 n8 n16 n24 =
     on_depth (λ (d : ℕ). b ≡ d → b ≡ 32) (λ e. absurd (n1 e)) (λ e. absurd (n4 e)) (λ e. absurd (n8 e)) (λ e. absurd (n16 e))
     (λ e. absurd (n24 e)) (λ e. e) b h refl
 
+-- up to 8 bits no mask is looked at
+pub no_masks_lem : (bits b : ℕ) → bits ≡ b → (palette : List ℕ) (m other : Masks) (line columns : List ℕ) → leb b 8 ≡ true
+    → (k : ℕ) → fetched b palette other line columns k ≡ fetched bits palette m line columns k
+unfolding fetched shown
+no_masks_lem bits b e palette m other line columns t k = rw (e, t)
+
 -- above 8 bits no palette is looked at
 pub no_palette : (bits : ℕ) (palette : List ℕ) (m : Masks) (line columns before after : List ℕ) → leb bits 8 ≡ false
     → Fetches bits [] m line columns before after → Fetches bits palette m line columns before after
@@ -34,8 +40,8 @@ no_palette bits palette m line columns before after e p = filled_by _ _ (length 
     same k = rw e
 
 -- masks that were compared
-pub same_masks : (m k : Masks) → (eqb m.red k.red && (eqb m.green k.green && (eqb m.blue k.blue && eqb m.alpha k.alpha))) ≡ true → m ≡ k
-same_masks m k e =
+pub same_masks_lem : (m k : Masks) → (eqb m.red k.red && (eqb m.green k.green && (eqb m.blue k.blue && eqb m.alpha k.alpha))) ≡ true → m ≡ k
+same_masks_lem m k e =
     let r = and_both (eqb m.red k.red) _ e in
     let g = and_both (eqb m.green k.green) _ r.1 in
     let b = and_both (eqb m.blue k.blue) (eqb m.alpha k.alpha) g.1 in

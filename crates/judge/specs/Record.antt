@@ -32,6 +32,7 @@ abbrev pub picture_in : List ℕ → Option PictureFields → Option Picture
 picture_in s None = None
 picture_in s (Some p) = Some (picture_with p (header_in s p))
 
+-- the corners as written, of an absent picture too
 abbrev pub record_with : List ℕ → (type : ℕ) → Row → Fields → Record
 record_with s type row f = record {
   kind = type;
@@ -40,11 +41,15 @@ record_with s type row f = record {
   y = f.y;
   cx = f.cx;
   cy = f.cy;
+  x_src = f.x_src;
+  y_src = f.y_src;
   cx_src = f.cx_src;
   cy_src = f.cy_src;
   action = action_of row.form f.operation;
   source = picture_in s f.source;
   mask = picture_in s f.mask;
+  x_mask = f.x_mask;
+  y_mask = f.y_mask;
 }
 
 -- the table's row of a record's type, and its fields

@@ -36,7 +36,9 @@ pub struct Picture {
     pub bits_len: u32,
 }
 
-// A record as one value. Signed numbers are in two's complement.
+// A record as one value. Signed numbers are in two's complement. The corners are there as written, of an absent picture too, of which
+// document 01 says "its usage and rectangle fields are then not looked at"; a present picture has its own as well. A mask's is 0 where the
+// type has no mask.
 #[derive(Clone, Copy)]
 pub struct Record {
     pub kind: u32,
@@ -45,11 +47,15 @@ pub struct Record {
     pub y: u32,
     pub cx: u32,
     pub cy: u32,
+    pub x_src: u32,
+    pub y_src: u32,
     pub cx_src: u32,
     pub cy_src: u32,
     pub action: Action,
     pub source: Option<Picture>,
     pub mask: Option<Picture>,
+    pub x_mask: u32,
+    pub y_mask: u32,
 }
 
 // A picture with its header.
@@ -84,11 +90,15 @@ fn record_of(s: &[u8], kind: u32, row: Row, f: Fields) -> Record
         y: f.y,
         cx: f.cx,
         cy: f.cy,
+        x_src: f.x_src,
+        y_src: f.y_src,
         cx_src: f.cx_src,
         cy_src: f.cy_src,
         action,
         source,
         mask,
+        x_mask: f.x_mask,
+        y_mask: f.y_mask,
     }
 }
 
