@@ -33,8 +33,8 @@ fn call_length(list: &[u8], at: usize) -> Option<usize>
     if room < 4 {
         return None;
     }
-    let length = match words::read::<4>(list, at) {
-        1 => 32 + padded(words::read::<4>(list, at + 28)),
+    let length = match words::load::<4>(list, at) {
+        1 if 32 <= room => 32 + padded(words::load::<4>(list, at + 28)),
         2 => 4,
         _ => return None,
     };

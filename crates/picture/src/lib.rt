@@ -63,10 +63,10 @@ pub fn palette(s: &[u8], picture: Option<Picture>) -> [u32; 256]
     requires { ForSome picture (Fit (length s.now)) }
     ensures { (result ≡ picture_palette s.now picture) × Colours result }
 {
-    match picture {
-        Some(p) => header_palette(header_part(s, p), p.header),
-        None => black(),
-    }
+    let Some(p) = picture else {
+        return black();
+    };
+    header_palette(header_part(s, p), p.header)
 }
 
 // The bytes of a row of a picture, counted from its top.

@@ -77,7 +77,10 @@ pub fn play(
         ≡ play_outcome width height (play_with s.now terms) (memory surface.old journal.old used.old) }
 {
     memory::status(width, height, surface.len(), journal.len(), *used)?;
-    let rec = judge::check(s)?;
+    let rec = match judge::check(s) {
+        Ok(rec) => rec,
+        Err(refusal) => return Err(refusal),
+    };
     accepted(surface, width, height, journal, used, s, rec, terms)
 }
 

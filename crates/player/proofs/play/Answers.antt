@@ -14,20 +14,19 @@ returns-in_err-status c =
     (refuses c.status.ensures c.in_err-status.was) (number_some _) in
     search rules
 
-pub returns-in_err-rec : goal.returns-in_err-rec
-returns-in_err-rec c =
+pub returns-in-Err : goal.returns-in-Err
+returns-in-Err c =
     let a = c.args in
-    let e = play_refused a.width a.height a.surface.now a.journal.now a.used.now a.s.now a.terms 0
-    (accepts c.status.ensures c.in_ok-status.was) refl _ c.check.ensures _ (ap numbered c.in_err-rec.was) in
-    search rules
+    play_refused a.width a.height a.surface.now a.journal.now a.used.now a.s.now a.terms 0
+    (accepts c.status.ensures c.in_ok-status.was) refl _ c.check.ensures _ (ap numbered c.in-Err.is)
 
 pub accepted-requires : goal.accepted-requires
 accepted-requires c =
-    (sym (accepts c.status.ensures c.in_ok-status.was), (accepted _ _ (sym (ap numbered c.in_ok-rec.was) ∙ c.check.ensures)).1)
+    (sym (accepts c.status.ensures c.in_ok-status.was), (accepted _ _ (sym (ap numbered c.in-Ok.is) ∙ c.check.ensures)).1)
 
 pub returns : goal.returns
 returns c =
     let a = c.args in
     play_accepted a.width a.height a.surface.now a.journal.now a.used.now a.s.now a.terms 0
-    (accepts c.status.ensures c.in_ok-status.was) refl _ c.check.ensures c.in_ok-rec.rec _
-    (ap numbered c.in_ok-rec.was) c.accepted.ensures
+    (accepts c.status.ensures c.in_ok-status.was) refl _ c.check.ensures c.in-Ok.rec _
+    (ap numbered c.in-Ok.is) c.accepted.ensures
