@@ -1,2 +1,4 @@
--- What the proofs on the script's buffer cite: passing over bytes leaves the rest unread.
+-- What the answers' proofs cite, of a call that was found and of what is unread, and laws of a buffer that is filled anew.
+pub mod FoundLaws
+pub mod InputLaws
 pub mod UnreadLaws

@@ -9,9 +9,11 @@ abbrev pub SameSizes : (surface journal surface_after journal_after : List ℕ) 
 SameSizes surface journal surface_after journal_after =
     (length surface_after ≡ length surface) × (length journal_after ≡ length journal)
 
+-- the same surface and journal still, and as long as they were
 abbrev pub SameLent : Lent → Lent → Type 0
 SameLent before after =
-    (length after.surface.now ≡ length before.surface.now) × (length after.journal.now ≡ length before.journal.now)
+    (after.surface.ghost_name ≡ before.surface.ghost_name) × (after.journal.ghost_name ≡ before.journal.ghost_name)
+    × SameSizes before.surface.now before.journal.now after.surface.now after.journal.now
 
 -- the same buffer still, and as long as it was
 abbrev pub SameInput : {R : Type 0} → Input R → Input R → Type 0
@@ -19,4 +21,5 @@ SameInput before after =
     (after.buffer.ghost_name ≡ before.buffer.ghost_name) × (length after.buffer.now ≡ length before.buffer.now)
 
 abbrev pub SameOutput : {P : Type 0} → Output P → Output P → Type 0
-SameOutput before after = length after.text.buffer.now ≡ length before.text.buffer.now
+SameOutput before after =
+    (after.text.buffer.ghost_name ≡ before.text.buffer.ghost_name) × (length after.text.buffer.now ≡ length before.text.buffer.now)

@@ -1,4 +1,5 @@
 // The calls of a script. All of a call is judged before it is made: a faulty one prints nothing.
+ghost use Rattle.std.specs.Prelude.{◌≡◌, length, OnErr};
 ghost use Rattle.replay.specs.Lengths.{SameLent, SameOutput};
 
 use crate::failure::Failure;
@@ -37,7 +38,10 @@ fn read<P: Print>(f: &Frame, output: &mut Output<P>) -> Result<(), Failure>
 
 // The sides, and how much of the surface and the journal the next calls are lent.
 fn lend(f: &Frame, lent: &mut Lent) -> Result<(), Failure>
-    ensures { SameLent lent.old lent.new }
+    ensures lent { SameLent lent.old lent.new }
+    ensures stays { (lent.new.surface.now ≡ lent.old.surface.now) × (lent.new.journal.now ≡ lent.old.journal.now)
+        × (lent.new.loan.used ≡ lent.old.loan.used) }
+    ensures err { OnErr result (lent.new.loan ≡ lent.old.loan) }
 {
     let pixels = words::read::<4>(f.call, 12) as usize;
     let bytes = words::read::<4>(f.call, 16) as usize;
@@ -58,21 +62,21 @@ fn lend(f: &Frame, lent: &mut Lent) -> Result<(), Failure>
 }
 
 // The count in use.
-fn count(f: &Frame, lent: &mut Lent)
-    ensures { SameLent lent.old lent.new }
+fn count(f: &Frame, loan: &mut Loan)
+    ensures { loan.new ≡ record loan.old { used = loan.new.used } }
 {
-    lent.loan.used = u64::from(words::read::<4>(f.call, 4));
+    loan.used = u64::from(words::read::<4>(f.call, 4));
 }
 
 // Four bytes of the journal.
-fn poke(f: &Frame, lent: &mut Lent) -> Result<(), Failure>
-    ensures { SameLent lent.old lent.new }
+fn poke(f: &Frame, journal: &mut [u8]) -> Result<(), Failure>
+    ensures { length journal.new ≡ length journal.old }
 {
     let at = words::read::<4>(f.call, 4) as usize;
-    if lent.journal.len() < at + 4 {
+    if journal.len() < at + 4 {
         return Err(Failure::Fault);
     }
-    words::store_u32(lent.journal, at, words::read::<4>(f.call, 8));
+    words::store_u32(journal, at, words::read::<4>(f.call, 8));
     Ok(())
 }
 
@@ -100,8 +104,8 @@ pub fn call<P: Print>(
         }
         Opcode::Read => read(f, output)?,
         Opcode::Lend => lend(f, lent)?,
-        Opcode::Count => count(f, lent),
-        Opcode::Poke => poke(f, lent)?,
+        Opcode::Count => count(f, &mut lent.loan),
+        Opcode::Poke => poke(f, lent.journal)?,
     }
     Ok(ControlFlow::Continue(()))
 }

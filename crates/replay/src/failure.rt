@@ -1,4 +1,6 @@
 // Why a script is not played to its end.
+ghost use Rattle.std.specs.Prelude.{◌≡◌};
+
 use std::io;
 
 // A fault of the script, or a read or a write that failed.
@@ -9,6 +11,10 @@ pub enum Failure {
 }
 
 impl From<io::Error> for Failure {
+    ghost use Rattle.replay.specs.declared.failure.Failure.TheVariants.{Stream};
+
+    ghost from_gives = { λ e f. f ≡ Stream e };
+
     fn from(e: io::Error) -> Failure {
         Failure::Stream(e)
     }

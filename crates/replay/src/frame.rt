@@ -1,5 +1,5 @@
 // A call in the bytes of the script.
-ghost use Rattle.std.specs.Prelude.{◌≤◌, IfSome};
+ghost use Rattle.std.specs.Prelude.{◌≡◌, true, ℕ, ◌≤◌, ◌<◌, length, get_or, IfSome};
 ghost use Rattle.replay.specs.Found.{Found};
 
 use crate::opcode::Opcode;
@@ -14,6 +14,12 @@ pub struct Frame<'a> {
     pub call: &'a [u8],
     pub bytes: &'a [u8],
     pub rest: &'a [u8],
+}
+
+fn all_zero(s: &[u8]) -> bool
+    ensures { result ≡ true → (k : ℕ) → k < length s.now → get_or s.now k 0 ≡ 0 }
+{
+    s.iter().all(|b| *b == 0)
 }
 
 // A call whose byte data has its length at `front`. Zero bytes stand behind the data, up to the next multiple of 4.
@@ -31,7 +37,7 @@ fn with_data(s: &[u8], opcode: Opcode, front: usize) -> Option<Frame<'_>>
     }
     let to = from + count;
     let (call, rest) = s.split_at_checked(from + count.next_multiple_of(4))?;
-    if call[to..].iter().any(|b| *b != 0) {
+    if !all_zero(&call[to..]) {
         return None;
     }
     Some(Frame {

@@ -21,7 +21,8 @@ impl<'a, P: Print> Output<'a, P> {
 
     pub fn new(rt: &'a P, buffer: &'a mut [u8]) -> Output<'a, P>
         requires { 21 ≤ length buffer.old }
-        ensures { (result.text.len ≡ 0) × (result.text.buffer.now ≡ buffer.old) }
+        ensures lent { (result.text.buffer.ghost_name ≡ buffer.entry.ghost_name) × (result.text.buffer.now ≡ buffer.old) }
+        ensures empty { result.text.len ≡ 0 }
     {
         Output {
             rt,
@@ -32,7 +33,9 @@ impl<'a, P: Print> Output<'a, P> {
     // Writes what waits.
     pub fn flush(&mut self) -> io::Result<()>
         ensures flushed { OnOk result (self.new.text.len ≡ 0) }
+        ensures lent { self.new.text.buffer.ghost_name ≡ self.old.text.buffer.ghost_name }
         ensures buffer { self.new.text.buffer.now ≡ self.old.text.buffer.now }
+        ensures waits { OnErr result (self.new.text.len ≡ self.old.text.len) }
     {
         self.rt.write_all(self.text.as_bytes())?;
         self.text.clear();
@@ -43,7 +46,9 @@ impl<'a, P: Print> Output<'a, P> {
     fn reserve(&mut self, more: usize) -> io::Result<()>
         requires { more ≤ length self.old.text.buffer.now }
         ensures room { OnOk result (self.new.text.len + more ≤ length self.new.text.buffer.now) }
+        ensures lent { self.new.text.buffer.ghost_name ≡ self.old.text.buffer.ghost_name }
         ensures buffer { self.new.text.buffer.now ≡ self.old.text.buffer.now }
+        ensures waits { OnErr result (self.new.text.len ≡ self.old.text.len) }
     {
         if self.text.room() < more {
             self.flush()?;
@@ -55,6 +60,7 @@ impl<'a, P: Print> Output<'a, P> {
         requires { length s.now ≤ length self.old.text.buffer.now }
         ensures size { SameOutput self.old self.new }
         ensures err { OnErr result (self.new.text.buffer.now ≡ self.old.text.buffer.now) }
+        ensures waits { OnErr result (self.new.text.len ≡ self.old.text.len) }
     {
         self.reserve(s.len())?;
         self.text.put(s);
@@ -64,6 +70,7 @@ impl<'a, P: Print> Output<'a, P> {
     pub fn number(&mut self, n: u64, after: u8) -> io::Result<()>
         ensures size { SameOutput self.old self.new }
         ensures err { OnErr result (self.new.text.buffer.now ≡ self.old.text.buffer.now) }
+        ensures waits { OnErr result (self.new.text.len ≡ self.old.text.len) }
     {
         self.reserve(NUMBER)?;
         self.text.decimal(n);

@@ -2,7 +2,10 @@
 #![tactic(auto)]
 
 ghost use Rattle.std.specs.Prelude.{◌≡◌, ◌≤◌, length, take};
-ghost use Rattle.script_calls.specs.Asked.{read_line};
+ghost use Rattle.memory.specs.Memory.{memory as memory_with};
+ghost use Rattle.memory.specs.Undoing.{undo_of};
+ghost use Rattle.player.specs.Outcome.{outcome_of};
+ghost use Rattle.script_calls.specs.Asked.{Rest, read_line};
 
 use script_format::sum::{of_bytes, of_words};
 use words::refusal::Refusal;
@@ -29,11 +32,8 @@ pub struct Lent<'a> {
 }
 
 impl<'a> Lent<'a> {
-    ghost use Rattle.memory.specs.Memory.{memory as memory_with};
-    ghost use Rattle.memory.specs.Undoing.{undo_of};
     ghost use Rattle.player.specs.Calls.{play_outcome};
-    ghost use Rattle.player.specs.Outcome.{outcome_of};
-    ghost use Rattle.script_calls.specs.Asked.{Rest, play_asked};
+    ghost use Rattle.script_calls.specs.Asked.{play_asked};
     ghost use Rattle.script_calls.specs.Kept.{SameLoan};
 
     // A play of record s. Behind the opcode of the call stand the clip's four numbers, the brush and a tag, which is not looked at.
@@ -70,17 +70,31 @@ impl<'a> Lent<'a> {
         ensures journal { self.new.journal.now ≡ self.old.journal.now }
         ensures loan { SameLoan self.old self.new }
     {
-        let pixels = self.loan.pixels;
-        let bytes = self.loan.bytes;
-        let journal = &mut self.journal[..bytes];
-        player::undo(
-            &mut self.surface[..pixels],
-            self.loan.width,
-            self.loan.height,
-            journal,
-            &mut self.loan.used,
-        )
+        // A journal borrowed as `&` here would not be known to stay.
+        let journal = &mut *self.journal;
+        undo(self.surface, journal, &mut self.loan)
     }
+}
+
+// An undo of the last play, by a journal that is read alone.
+pub fn undo(surface: &mut [u32], journal: &[u8], loan: &mut Loan) -> Result<u32, Refusal>
+    requires { (loan.old.pixels ≤ length surface.old) × (loan.old.bytes ≤ length journal.now) }
+    ensures outcome { outcome_of result (memory_with (take loan.old.pixels surface.new) (take loan.old.bytes journal.now) loan.new.used)
+        ≡ undo_of loan.old.width loan.old.height
+        (memory_with (take loan.old.pixels surface.old) (take loan.old.bytes journal.now) loan.old.used) }
+    ensures rest { Rest loan.old.pixels surface.old surface.new }
+    ensures loan { loan.new ≡ record loan.old { used = loan.new.used } }
+{
+    let pixels = loan.pixels;
+    let bytes = loan.bytes;
+    let journal = &journal[..bytes];
+    player::undo(
+        &mut surface[..pixels],
+        loan.width,
+        loan.height,
+        journal,
+        &mut loan.used,
+    )
 }
 
 // A reading of record s, as the numbers of its line; asked for as `view::read` is.

@@ -14,7 +14,8 @@ impl<'a> Text<'a> {
     ghost use Rattle.script_format.specs.Text.{Printed};
 
     pub fn new(buffer: &'a mut [u8]) -> Text<'a>
-        ensures { (result.len ≡ 0) × (result.buffer.now ≡ buffer.old) }
+        ensures lent { (result.buffer.ghost_name ≡ buffer.entry.ghost_name) × (result.buffer.now ≡ buffer.old) }
+        ensures empty { result.len ≡ 0 }
     {
         Text { buffer, len: 0 }
     }
@@ -33,7 +34,8 @@ impl<'a> Text<'a> {
     }
 
     pub fn clear(&mut self)
-        ensures { (self.new.len ≡ 0) × (self.new.buffer.now ≡ self.old.buffer.now) }
+        ensures lent { self.new.buffer.ghost_name ≡ self.old.buffer.ghost_name }
+        ensures empty { (self.new.len ≡ 0) × (self.new.buffer.now ≡ self.old.buffer.now) }
     {
         self.len = 0;
     }
@@ -41,6 +43,7 @@ impl<'a> Text<'a> {
     // The bytes of s.
     pub fn put(&mut self, s: &[u8])
         requires { self.old.len + length s.now ≤ length self.old.buffer.now }
+        ensures lent { self.new.buffer.ghost_name ≡ self.old.buffer.ghost_name }
         ensures len { self.new.len ≡ self.old.len + length s.now }
         ensures bytes { self.new.buffer.now ≡ sets self.old.buffer.now self.old.len s.now }
         ensures size { length self.new.buffer.now ≡ length self.old.buffer.now }
@@ -53,6 +56,7 @@ impl<'a> Text<'a> {
     // By `io::decimal`, which says what digits it gives and cannot fail: `write!` would answer an error for want of room, which is ruled out here.
     pub fn decimal(&mut self, n: u64)
         requires { self.old.len + 20 ≤ length self.old.buffer.now }
+        ensures lent { self.new.buffer.ghost_name ≡ self.old.buffer.ghost_name }
         ensures printed { Printed n self.old.len self.new.len self.old.buffer.now self.new.buffer.now }
         ensures size { length self.new.buffer.now ≡ length self.old.buffer.now }
     {
