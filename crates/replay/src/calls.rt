@@ -1,12 +1,14 @@
 // The calls of a script. All of a call is judged before it is made: a faulty one prints nothing.
 ghost use Rattle.std.specs.Prelude.{◌≡◌, length, OnErr};
 ghost use Rattle.replay.specs.Lengths.{SameLent, SameOutput};
+ghost use Rattle.script_calls.specs.Kept.{SameLoan};
 
 use crate::failure::Failure;
 use crate::frame::Frame;
 use crate::opcode::Opcode;
 use crate::output::Output;
 use script_calls::{Lent, Loan};
+use std::io;
 use std::ops::ControlFlow;
 use words::refusal::Refusal;
 
@@ -22,6 +24,27 @@ fn end(f: &Frame) -> Result<(), Failure> {
 fn numbers(answer: Result<u32, Refusal>, lent: &Lent) -> [u64; 3] {
     let (status, pixels) = player::numbers(answer);
     [u64::from(status), u64::from(pixels), lent.loan.used]
+}
+
+// A play and its line. The next calls are lent what this one was.
+fn play<P: Print>(f: &Frame, lent: &mut Lent, output: &mut Output<P>) -> io::Result<()>
+    ensures lent { SameLent lent.old lent.new }
+    ensures loan { SameLoan lent.old lent.new }
+    ensures output { SameOutput output.old output.new }
+{
+    let answer = lent.play(f.bytes, f.call);
+    output.line(&numbers(answer, lent))
+}
+
+// An undo and its line, alike; the journal is only read.
+fn undo<P: Print>(lent: &mut Lent, output: &mut Output<P>) -> io::Result<()>
+    ensures lent { SameLent lent.old lent.new }
+    ensures loan { SameLoan lent.old lent.new }
+    ensures journal { lent.new.journal.now ≡ lent.old.journal.now }
+    ensures output { SameOutput output.old output.new }
+{
+    let answer = lent.undo();
+    output.line(&numbers(answer, lent))
 }
 
 fn read<P: Print>(f: &Frame, output: &mut Output<P>) -> Result<(), Failure>
@@ -94,14 +117,8 @@ pub fn call<P: Print>(
             end(f)?;
             return Ok(ControlFlow::Break(()));
         }
-        Opcode::Play => {
-            let answer = lent.play(f.bytes, f.call);
-            output.line(&numbers(answer, lent))?
-        }
-        Opcode::Undo => {
-            let answer = lent.undo();
-            output.line(&numbers(answer, lent))?
-        }
+        Opcode::Play => play(f, lent, output)?,
+        Opcode::Undo => undo(lent, output)?,
         Opcode::Read => read(f, output)?,
         Opcode::Lend => lend(f, lent)?,
         Opcode::Count => count(f, &mut lent.loan),
